@@ -1,0 +1,2 @@
+-- The numbers that every call answers with.
+pub mod Verdicts

@@ -1,0 +1,156 @@
+-- Laws of numbers as bytes, over every width, and of splices. Assumes nothing.
+use Prim.Native.Nat.{ℕ, zero, suc, _+_, _*_, _-_, _/_, _%_, _^_, _≤_, _<_}
+use mathlib.Core.Path.{_≡_, refl, ap, sym, _∙_}
+use mathlib.Core.List.{List, [], _∷_, _++_, append-assoc, append-nil}
+use native.Mathlib.Nat.{mod-eq-of-lt, add-assoc, add-zero, add-suc, one-le-pow, mod-lt, div-one, div-div-eq-div-mul, mul-comm, mul-assoc, pow-suc, add-sub-cancel-left, sub-zero, zero-sub, suc-sub-suc, zero-add, div-add-mod', div-lt-iff-lt-mul}
+use native.Mathlib.Numerals.{add-one}
+use native.Mathlib.Omega.{arith}
+use lib.Dec.{lit<}
+use lib.Arith.{mod-mul, digits-lt, digits-div, digits-mod}
+use lib.ListN.{length, getD, take, drop, set, replicate, length-append, length-take, length-drop, length-replicate, List·getD-append}
+use lib.Seq.{take-append-seam, drop-append-add, drop-drop, set-split, getD-at, getD-append-add, getD-drop, take-suc}
+use Rattle.words.specs.Numbers.{numberAt, bytesOf, zeros, Bytes}
+use Rattle.words.specs.Splices.{splice, part}
+
+-- ---- numbers
+
+pub bytes-length : (n x : ℕ) → length (bytesOf n x) ≡ n
+unfolding bytesOf
+bytes-length zero x = refl
+bytes-length (suc n) x = length-append (bytesOf n (x / 256)) (x % 256 ∷ []) ∙ ap (λ (k : ℕ). k + 1) (bytes-length n (x / 256)) ∙ add-one n
+
+-- a number is read from its own bytes alone
+pub number-front : (n : ℕ) (s r : List ℕ) (at : ℕ) → at + n ≤ length s → numberAt n (s ++ r) at ≡ numberAt n s at
+unfolding numberAt
+number-front zero s r at h = refl
+number-front (suc n) s r at h =
+    rw (number-front n s r at (omega arith), List·getD-append s r 0 (at + n) (omega arith))
+
+-- behind s, a place counts from its end
+pub number-behind : (n : ℕ) (s r : List ℕ) (at k : ℕ) → length s ≡ k → numberAt n (s ++ r) (k + at) ≡ numberAt n r at
+unfolding numberAt
+number-behind zero s r at k e = refl
+number-behind (suc n) s r at k e =
+    rw (number-behind n s r at k e, ← e, add-assoc (length s) at n, getD-append-add s r (at + n) 0)
+
+fits-div : (n x : ℕ) → x < 256 ^ suc n → x / 256 < 256 ^ n
+fits-div n x h = div-lt-iff-lt-mul {k = 256} {x = x} {y = 256 ^ n} (lit< tt) .1 (rw pow-suc at h)
+
+-- what is written as a number of n bytes is read as that number
+pub number-back : (n x : ℕ) (r : List ℕ) → x < 256 ^ n → numberAt n (bytesOf n x ++ r) 0 ≡ x
+unfolding numberAt bytesOf
+number-back zero x r h = omega arith
+number-back (suc n) x r h =
+    rw (append-assoc, number-back n (x / 256) (x % 256 ∷ [] ++ r) (fits-div n x h), zero-add, getD-at (bytesOf n (x / 256)) (x % 256) r 0 n (bytes-length n (x / 256)))
+    (div-add-mod' x 256)
+
+-- a part with one byte more
+part-suc : (s : List ℕ) (at n : ℕ) → at + suc n ≤ length s → part s at (suc n) ≡ part s at n ++ (getD s (at + n) 0 ∷ [])
+part-suc s at n h = take-suc (drop at s) n 0 (rw length-drop (omega arith)) ∙ rw getD-drop
+
+spread : (x p y d : ℕ) → (x * p + y) * 256 + d ≡ x * (p * 256) + (y * 256 + d)
+spread x p y d = rw (← mul-assoc x p 256) (omega arith)
+
+-- what is read as a number of n bytes is written as those bytes
+pub bytes-back : (n : ℕ) (s : List ℕ) (at : ℕ) → Bytes s → at + n ≤ length s → bytesOf n (numberAt n s at) ≡ part s at n
+unfolding numberAt bytesOf
+bytes-back zero s at b h = refl
+bytes-back (suc n) s at b h =
+    rw (digits-div (numberAt n s at) (b (at + n)), digits-mod (numberAt n s at) (b (at + n)), bytes-back n s at b (omega arith))
+    (sym (part-suc s at n h))
+
+-- a number of bytes is small
+pub number-lt : (n : ℕ) (s : List ℕ) (at : ℕ) → Bytes s → numberAt n s at < 256 ^ n
+unfolding numberAt
+number-lt zero s at b = lit< tt
+number-lt (suc n) s at b = rw pow-suc (digits-lt (number-lt n s at b) (b (at + n)))
+
+-- a number of a + b bytes is one of a bytes, and one of b behind it
+pub number-split : (a b : ℕ) (s : List ℕ) (at : ℕ) → numberAt (a + b) s at ≡ numberAt a s at * 256 ^ b + numberAt b s (at + a)
+unfolding numberAt
+number-split a zero s at = rw add-zero (omega arith)
+number-split a (suc b) s at = rw (add-suc, number-split a b s at, pow-suc, add-assoc at a b) (spread (numberAt a s at) (256 ^ b) (numberAt b s (at + a)) (getD s (at + (a + b)) 0))
+
+-- two numbers that stand side by side make one
+pub number-join : (a b : ℕ) (s : List ℕ) (at x y : ℕ) → x ≡ numberAt a s at → y ≡ numberAt b s (at + a) → x * 256 ^ b + y ≡ numberAt (a + b) s at
+number-join a b s at x y p q = rw (p, q) (sym (number-split a b s at))
+
+-- a byte is a number of one byte
+pub number-one : (s : List ℕ) (at x : ℕ) → x ≡ getD s at 0 → x ≡ numberAt 1 s at
+unfolding numberAt
+number-one s at x e = rw add-zero (omega arith)
+
+-- the low n bytes of a number do not see the rest of it
+pub bytes-low : (n x : ℕ) → bytesOf n (x % 256 ^ n) ≡ bytesOf n x
+unfolding bytesOf
+bytes-low zero x = refl
+bytes-low (suc n) x =
+    rw (pow-suc, mod-mul x {m = 256 ^ n} {c = 256} (one-le-pow n 256 (lit< tt)) (lit< tt), digits-div (x / 256 % 256 ^ n) (mod-lt x (lit< tt)), digits-mod (x / 256 % 256 ^ n) (mod-lt x (lit< tt)), bytes-low n (x / 256))
+
+bytes-front : (a b x : ℕ) → bytesOf (a + b) x ≡ bytesOf a (x / 256 ^ b) ++ bytesOf b x
+unfolding bytesOf
+bytes-front a zero x = rw (add-zero, div-one, append-nil)
+bytes-front a (suc b) x =
+    rw (add-suc, bytes-front a b (x / 256), div-div-eq-div-mul, pow-suc, mul-comm 256 (256 ^ b), append-assoc)
+
+-- a number of a + b bytes is written as its high part, and its low part behind it
+pub bytes-split : (a b x : ℕ) → bytesOf (a + b) x ≡ bytesOf a (x / 256 ^ b) ++ bytesOf b (x % 256 ^ b)
+bytes-split a b x = rw bytes-low (bytes-front a b x)
+
+pub zeros-length : (n : ℕ) → length (zeros n) ≡ n
+unfolding zeros
+zeros-length n = length-replicate n 0
+
+-- ---- splices
+
+-- p and then r, with w in the place of what stands after p
+splice-at : (p r w : List ℕ) (m : ℕ) → length p ≡ m → splice (p ++ r) m w ≡ p ++ (w ++ drop (length w) r)
+unfolding splice
+splice-at p r w m e = rw (← e, take-append-seam, drop-append-add)
+
+module _ (d v : List ℕ) (at n : ℕ) (e : length v ≡ n) (fits : at + n ≤ length d) where
+  pub splice-length : length (splice d at v) ≡ length d
+  unfolding splice
+  splice-length = simp (length-append, length-take, length-drop) (omega arith)
+
+  pub splice-join : (w : List ℕ) → splice (splice d at v) (at + n) w ≡ splice d at (v ++ w)
+  unfolding splice
+  splice-join w =
+      let h : length (take at d ++ v) ≡ at + n = simp (length-append, length-take) (omega arith) in
+      ap (λ (l : List ℕ). splice l (at + n) w) (sym (append-assoc (take at d) v (drop (at + length v) d)))
+      ∙ splice-at (take at d ++ v) (drop (at + length v) d) w (at + n) h
+      ∙ simp (append-assoc, drop-drop, length-append, add-assoc)
+
+-- one store
+pub set-splice : (d : List ℕ) (at x : ℕ) → at < length d → set d at x ≡ splice d at (x ∷ [])
+unfolding splice
+set-splice d at x h = rw (set-split d at x h, ← add-one)
+
+-- one store after another
+pub splice-step : (d m r : List ℕ) (at n : ℕ) (v w : List ℕ) → m ≡ splice d at v → r ≡ splice m (at + n) w → length v ≡ n → at + n ≤ length d → r ≡ splice d at (v ++ w)
+splice-step d m r at n v w p q e h = q ∙ ap (λ (l : List ℕ). splice l (at + n) w) p ∙ splice-join d v at n e h w
+
+-- a lent part comes back as ys: the whole is a splice
+pub back-splice : (xs ys : List ℕ) (a n : ℕ) → length ys ≡ n
+    → take a xs ++ (ys ++ drop (a + n - a) (drop a xs)) ≡ splice xs a ys
+unfolding splice
+back-splice xs ys a n e = rw (add-sub-cancel-left, drop-drop, e)
+
+-- the same where what the part became is known
+pub back-as : (xs ys zs : List ℕ) (a n : ℕ) → ys ≡ zs → length zs ≡ n
+    → take a xs ++ (ys ++ drop (a + n - a) (drop a xs)) ≡ splice xs a zs
+back-as xs ys zs a n p e = rw p (back-splice xs zs a n e)
+
+pub part-length : (xs : List ℕ) (a n : ℕ) → a + n ≤ length xs → length (take (a + n - a) (drop a xs)) ≡ n
+part-length xs a n h = simp (length-take, length-drop) (omega arith)
+
+-- one store of a number of one byte
+pub set-byte : (d : List ℕ) (at x : ℕ) → x < 256 → at < length d → set d at x ≡ splice d at (bytesOf 1 x)
+unfolding bytesOf
+set-byte d at x b h = rw (mod-eq-of-lt b) (set-splice d at x h)
+
+-- a number's high part stored, and then its low part behind it
+pub put-join : (a b : ℕ) (d m r : List ℕ) (at x : ℕ) → m ≡ splice d at (bytesOf a (x / 256 ^ b)) → r ≡ splice m (at + a) (bytesOf b (x % 256 ^ b))
+    → at + (a + b) ≤ length d → r ≡ splice d at (bytesOf (a + b) x)
+put-join a b d m r at x p q h =
+    rw bytes-split (splice-step d m r at a (bytesOf a (x / 256 ^ b)) (bytesOf b (x % 256 ^ b)) p q (bytes-length a (x / 256 ^ b)) (omega arith))

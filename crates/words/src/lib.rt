@@ -1,0 +1,94 @@
+// Numbers in lent bytes, high byte first: read and written in place, and nothing else touched.
+// The readers and writers ask that the bytes are there: they are inner, for the crates above.
+ghost use mathlib.Core.Path.{_≡_};
+ghost use mathlib.Core.List.{[], _∷_};
+ghost use Prim.Native.Nat.{ℕ, _+_, _-_, _^_, _≤_, _<_};
+ghost use lib.ListN.{length};
+ghost use Rattle.words.specs.Choice.{both, no};
+ghost use Rattle.words.specs.Numbers.{numberAt, bytesOf};
+ghost use Rattle.words.specs.Splices.{splice};
+
+pub fn wide(x: u8) -> u64
+    ensures { λ r. ⌜ (r ≡ x) × (r < 256) ⌝ }
+{
+    x as u64
+}
+
+// Two bytes. Inner.
+pub fn pair_at(s: &[u8], at: usize) -> u64
+    requires { ⌜ at + 2 ≤ length (now s) ⌝ }
+    ensures { λ r. ⌜ (r ≡ numberAt 2 (now (s .entry)) at) × (r < 2 ^ 16) ⌝ }
+{
+    wide(s[at]) * 256 + wide(s[at + 1])
+}
+
+// Four bytes. Inner.
+pub fn quad_at(s: &[u8], at: usize) -> u64
+    requires { ⌜ at + 4 ≤ length (now s) ⌝ }
+    ensures { λ r. ⌜ (r ≡ numberAt 4 (now (s .entry)) at) × (r < 2 ^ 32) ⌝ }
+{
+    pair_at(s, at) * 65536 + pair_at(s, at + 2)
+}
+
+// Eight bytes. Inner.
+pub fn word_at(s: &[u8], at: usize) -> u64
+    requires { ⌜ at + 8 ≤ length (now s) ⌝ }
+    ensures { λ r. ⌜ r ≡ numberAt 8 (now (s .entry)) at ⌝ }
+{
+    quad_at(s, at) * 4294967296 + quad_at(s, at + 4)
+}
+
+// Both tests, with no branch for a proof to follow.
+pub fn and(a: bool, b: bool) -> bool
+    ensures { λ r. ⌜ r ≡ both a b ⌝ }
+{
+    if a { b } else { false }
+}
+
+pub fn not(a: bool) -> bool
+    ensures { λ r. ⌜ r ≡ no a ⌝ }
+{
+    if a { false } else { true }
+}
+
+// One byte. Inner.
+pub fn put_u8(s: &mut [u8], at: usize, x: u8)
+    requires { ⌜ at < length (now s) ⌝ }
+    ensures { λ _. ⌜ now (s .exit) ≡ splice (now (s .entry)) at (x ∷ []) ⌝ }
+{
+    s[at] = x;
+}
+
+fn put_byte(s: &mut [u8], at: usize, x: u64)
+    requires { ⌜ (at < length (now s)) × (x < 256) ⌝ }
+    ensures { λ _. ⌜ now (s .exit) ≡ splice (now (s .entry)) at (bytesOf 1 x) ⌝ }
+{
+    s[at] = x as u8;
+}
+
+// Two bytes. Inner.
+pub fn put_pair(s: &mut [u8], at: usize, x: u64)
+    requires { ⌜ (at + 2 ≤ length (now s)) × (x < 2 ^ 16) ⌝ }
+    ensures { λ _. ⌜ now (s .exit) ≡ splice (now (s .entry)) at (bytesOf 2 x) ⌝ }
+{
+    put_byte(s, at, x / 256);
+    put_byte(s, at + 1, x % 256);
+}
+
+// Four bytes. Inner.
+pub fn put_quad(s: &mut [u8], at: usize, x: u64)
+    requires { ⌜ (at + 4 ≤ length (now s)) × (x < 2 ^ 32) ⌝ }
+    ensures { λ _. ⌜ now (s .exit) ≡ splice (now (s .entry)) at (bytesOf 4 x) ⌝ }
+{
+    put_pair(s, at, x / 65536);
+    put_pair(s, at + 2, x % 65536);
+}
+
+// Eight bytes. Inner.
+pub fn put_word(s: &mut [u8], at: usize, x: u64)
+    requires { ⌜ at + 8 ≤ length (now s) ⌝ }
+    ensures { λ _. ⌜ now (s .exit) ≡ splice (now (s .entry)) at (bytesOf 8 x) ⌝ }
+{
+    put_quad(s, at, x / 4294967296);
+    put_quad(s, at + 4, x % 4294967296);
+}

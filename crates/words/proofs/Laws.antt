@@ -8,7 +8,7 @@ use native.Mathlib.Omega.{arith}
 use lib.Dec.{lit<}
 use lib.Arith.{mod-mul, digits-lt, digits-div, digits-mod}
 use lib.ListN.{length, getD, take, drop, set, replicate, length-append, length-take, length-drop, length-replicate, List·getD-append}
-use lib.Seq.{take-append-seam, drop-append-add, drop-drop, set-split, getD-at, getD-append-add, getD-drop, take-suc}
+use lib.Seq.{take-append-seam, drop-append-add, drop-drop, set-split, getD-at, getD-append-add, getD-drop, take-suc, take-at}
 use Rattle.words.specs.Numbers.{numberAt, bytesOf, zeros, Bytes}
 use Rattle.words.specs.Splices.{splice, part}
 
@@ -120,6 +120,13 @@ module _ (d v : List ℕ) (at n : ℕ) (e : length v ≡ n) (fits : at + n ≤ l
       ap (λ (l : List ℕ). splice l (at + n) w) (sym (append-assoc (take at d) v (drop (at + length v) d)))
       ∙ splice-at (take at d ++ v) (drop (at + length v) d) w (at + n) h
       ∙ simp (append-assoc, drop-drop, length-append, add-assoc)
+
+-- what stands up to the end of what was put in
+pub take-splice : (d v : List ℕ) (at n : ℕ) → length v ≡ n → at ≤ length d → take (at + n) (splice d at v) ≡ take at d ++ v
+unfolding splice
+take-splice d v at n e h =
+    rw (← append-assoc (take at d) v (drop (at + length v) d))
+    (take-at (take at d ++ v) (drop (at + length v) d) (at + n) (simp (length-append, length-take) (omega arith)))
 
 -- one store
 pub set-splice : (d : List ℕ) (at x : ℕ) → at < length d → set d at x ≡ splice d at (x ∷ [])

@@ -1,6 +1,6 @@
 -- A key's words, its 34 bytes, and the tests on keys (document 01, "Keys, values, messages"). What the tests say of the
 -- bits themselves is in Bits.
-use Prim.Native.Nat.{ℕ, _+_, _-_, _/_, _%_, _^_}
+use Prim.Native.Nat.{ℕ, _+_, _-_, _/_, _%_, _^_, _<_}
 use mathlib.Core.List.{List, _++_}
 use mathlib.Core.Bool.{Bool, true, false}
 use lib.Dec.{ltb, leb, eqb}
@@ -35,6 +35,14 @@ wellKey k =
     (both (clean (k .len) (k .w0))
     (both (clean (k .len - 64) (k .w1))
     (both (clean (k .len - 128) (k .w2)) (clean (k .len - 192) (k .w3)))))
+
+-- every number fits its field, as in every key of the code
+pub record KeyFits (k : Key) : Type 0 where
+  pub len : k .len < 2 ^ 16
+  pub w0 : k .w0 < 2 ^ 64
+  pub w1 : k .w1 < 2 ^ 64
+  pub w2 : k .w2 < 2 ^ 64
+  pub w3 : k .w3 < 2 ^ 64
 
 unfoldable pub keyBytes : Key → List ℕ
 keyBytes k = bytesOf 2 (k .len) ++ (bytesOf 8 (k .w0) ++ (bytesOf 8 (k .w1) ++ (bytesOf 8 (k .w2) ++ bytesOf 8 (k .w3))))

@@ -1,10 +1,10 @@
 use Rattle.words.specs.Choice.{no}
 use mathlib.Core.Path.{ap}
 use mathlib.Core.Path.{sym, _∙_}
 use Rattle.value.specs.Values.{fits, isNode}
 use borrow.Author.Needs.{needs}
-use Rattle.value.proofs.fits.Statement.{statement}
-use Rattle.value.proofs.fits.Tie as tie
+use Rattle.tree.proofs.fits.Statement.{statement}
+use Rattle.tree.proofs.fits.Tie as tie
 
 is-node-requires : tie.Need-is-node-requires
 is-node-requires c κs = search needs

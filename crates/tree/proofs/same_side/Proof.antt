@@ -1,6 +1,6 @@
 use borrow.Author.Needs.{needs}
-use Rattle.value.proofs.same_side.Statement.{statement}
-use Rattle.value.proofs.same_side.Tie as tie
+use Rattle.tree.proofs.same_side.Statement.{statement}
+use Rattle.tree.proofs.same_side.Tie as tie
 
 enum-told : tie.Need-enum-told
 enum-told c = search needs

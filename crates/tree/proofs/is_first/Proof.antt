@@ -1,7 +1,7 @@
 use Rattle.value.specs.Values.{isFirst}
 use borrow.Author.Needs.{needs}
-use Rattle.value.proofs.is_first.Statement.{statement}
-use Rattle.value.proofs.is_first.Tie as tie
+use Rattle.tree.proofs.is_first.Statement.{statement}
+use Rattle.tree.proofs.is_first.Tie as tie
 
 enum-told : tie.Need-enum-told
 enum-told c = search needs

@@ -1,8 +1,8 @@
 use mathlib.Core.Path.{sym, _∙_}
 use Rattle.value.specs.Values.{valueEq}
 use borrow.Author.Needs.{needs}
-use Rattle.value.proofs.same_value.Statement.{statement}
-use Rattle.value.proofs.same_value.Tie as tie
+use Rattle.tree.proofs.same_value.Statement.{statement}
+use Rattle.tree.proofs.same_value.Tie as tie
 
 enum-told : tie.Need-enum-told
 enum-told c = search needs

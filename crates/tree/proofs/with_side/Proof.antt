@@ -1,5 +1,5 @@
-use Rattle.value.proofs.with_side.Statement.{statement}
-use Rattle.value.proofs.with_side.Tie as tie
+use Rattle.tree.proofs.with_side.Statement.{statement}
+use Rattle.tree.proofs.with_side.Tie as tie
 
 returns : tie.Need-returns
 returns c = simp (c .if1 .taken)

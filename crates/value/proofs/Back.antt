@@ -6,7 +6,7 @@ use mathlib.Core.Bool.{Bool, true, false}
 use native.Mathlib.Omega.{arith}
 use lib.ListN.{getD, length, length-append}
 use lib.Seq.{getD-at}
-use lib.Dec.{ltb, eqb}
+use lib.Dec.{ltb}
 use borrow.Author.Tests.{lt-leb, le-leb, ne-eqb, ltb-true}
 use Rattle.words.proofs.Laws.{four-at, both-true}
 use Rattle.key.specs.Keys.{keyAt, keyBytes, wellKey, KeyFits}
@@ -27,19 +27,12 @@ use Rattle.value.proofs.Laws.{digest-length, link-length, fingerprint-l
 
 -- ---- the readers' rows, over a place s at which the parts stand
 
-mark-back : (m : Bool) → eqb (markByte m) 1 ≡ m
-mark-back true = refl
-mark-back false = refl
-
-mark-small : (m : Bool) → ltb 1 (markByte m) ≡ false
-mark-small true = refl
-mark-small false = refl
-
 module _ (s : List ℕ) (at : ℕ) where
   link-row : (k : Key) (d : Digest) (m : Bool) → keyAt s (at + 1) ≡ kr.Good k → digestAt s (at + 35) ≡ d → getD s (at + 67) 0 ≡ markByte m
       → 0 < k .len → linkAt s at ≡ sr.Good (Link k d m) 68
   unfolding linkAt
-  link-row k d m a b c h = simp (a, b, c, ne-eqb (k .len) 0 (λ e. omega arith), mark-small, mark-back)
+  link-row k d true a b c h = simp (a, b, c, ne-eqb (k .len) 0 (λ e. omega arith))
+  link-row k d false a b c h = simp (a, b, c, ne-eqb (k .len) 0 (λ e. omega arith))
 
   empty-row : at < length s → getD s at 0 ≡ 0 → sideAt s at ≡ sr.Good Empty 1
   unfolding sideAt

@@ -123,7 +123,7 @@ fn mark_byte(m: bool) -> u8
 // A link, whose tag has been looked at. Inner.
 fn read_link(s: &[u8], at: usize) -> SideRead
     requires { ⌜ at + 68 ≤ length (now s) ⌝ }
-    ensures { λ r. ⌜ r ≡ linkAt (now (s .entry)) at ⌝ }
+    ensures { λ r. ⌜ (r ≡ linkAt (now (s .entry)) at) × (sideEnd r ≤ 68) ⌝ }
 {
     let m = s[at + LINK_MARK];
     match Key::read(s, at + TAG_BYTES) {

@@ -25,11 +25,11 @@ enum-known-k c = search needs
 
 returns : tie.Need-returns
 unfolding linkAt
-returns c = simp (sym (c .before .before .before .before .before .read .ensures) ∙ c .before .before .before .k .given .1, eq-eqb _ _ (c .if1 .taken))
+returns c = (simp (sym (c .before .before .before .before .before .read .ensures) ∙ c .before .before .before .k .given .1, eq-eqb _ _ (c .if1 .taken)), search needs)
 
 returns-2 : tie.Need-returns-2
 unfolding linkAt
-returns-2 c = simp (sym (c .before .before .before .before .before .before .read .ensures) ∙ c .before .before .before .before .k .given .1, ne-eqb _ _ (c .before .if1 .left), lt-ltb _ _ (c .if2 .taken))
+returns-2 c = (simp (sym (c .before .before .before .before .before .before .read .ensures) ∙ c .before .before .before .before .k .given .1, ne-eqb _ _ (c .before .if1 .left), lt-ltb _ _ (c .if2 .taken)), search needs)
 
 add-read-2 : tie.Need-add-read-2
 add-read-2 c = search needs
@@ -39,11 +39,11 @@ read-requires-2 c κs = search needs
 
 returns-3 : tie.Need-returns-3
 unfolding linkAt
-returns-3 c = simp (sym (c .before .before .read .ensures) ∙ c .enum-told .given .1)
+returns-3 c = (simp (sym (c .before .before .read .ensures) ∙ c .enum-told .given .1), search needs)
 
 returns-4 : tie.Need-returns-4
 unfolding linkAt
-returns-4 c = simp (sym (c .before .before .before .before .before .before .before .read .ensures) ∙ c .before .before .before .before .before .k .given .1, ne-eqb _ _ (c .before .before .if1 .left), le-ltb _ _ (c .before .if2 .left), c .read2 .ensures)
+returns-4 c = (simp (sym (c .before .before .before .before .before .before .before .read .ensures) ∙ c .before .before .before .before .before .k .given .1, ne-eqb _ _ (c .before .before .if1 .left), le-ltb _ _ (c .before .if2 .left), c .read2 .ensures), search needs)
 
 pub read-link-spec : {M : Type 1} → statement M
 read-link-spec =

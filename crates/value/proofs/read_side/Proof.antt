@@ -1,4 +1,3 @@
-use Rattle.value.proofs.Laws.{link-end}
 use native.Mathlib.Omega.{arith}
 use borrow.Author.Tests.{lt-ltb, le-ltb, le-leb, lt-leb, eq-eqb, ne-eqb}
 use Rattle.value.specs.Values.{sideAt}
@@ -25,7 +24,7 @@ read-link-requires c κs = search needs
 
 returns-3 : tie.Need-returns-3
 unfolding sideAt
-returns-3 c = (simp (lt-leb _ _ (c .before .before .before .before .before .if1 .left), ne-eqb _ _ (c .before .before .before .if2 .left), eq-eqb _ _ (c .before .before .if3 .taken), le-leb _ _ (c .before .if4 .taken), c .read-link .ensures), rw (c .read-link .ensures) (omega (arith, link-end (c .before .before .before .before .before .before .before .args .s .now) (c .before .before .before .before .before .before .before .args .at))))
+returns-3 c = (simp (lt-leb _ _ (c .before .before .before .before .before .if1 .left), ne-eqb _ _ (c .before .before .before .if2 .left), eq-eqb _ _ (c .before .before .if3 .taken), le-leb _ _ (c .before .if4 .taken), c .read-link .ensures .0), omega (arith, c .read-link .ensures .1))
 
 returns-4 : tie.Need-returns-4
 unfolding sideAt

@@ -52,10 +52,14 @@ sideBytes (Link k d m) = linkBytes k d m
 unfoldable pub fingerprintBytes : Digest → List ℕ
 fingerprintBytes d = (1 ∷ []) ++ digestBytes d
 
+-- a node: 02, left side, right side
+unfoldable pub nodeBytes : Side → Side → List ℕ
+nodeBytes l r = (2 ∷ []) ++ (sideBytes l ++ sideBytes r)
+
 unfoldable pub valueBytes : Value → List ℕ
 valueBytes v.None = 0 ∷ []
 valueBytes (v.Fingerprint d) = fingerprintBytes d
-valueBytes (v.Node n) = (2 ∷ []) ++ (sideBytes (n .left) ++ sideBytes (n .right))
+valueBytes (v.Node n) = nodeBytes (n .left) (n .right)
 
 -- ---- read: what stands at a place of s, and how many bytes it takes
 

@@ -157,6 +157,20 @@ pub put-join : (a b : ℕ) (d m r : List ℕ) (at x : ℕ) → m ≡ splice d at
 put-join a b d m r at x p q h =
     rw bytes-split (splice-step d m r at a (bytesOf a (x / 256 ^ b)) (bytesOf b (x % 256 ^ b)) p q (bytes-length a (x / 256 ^ b)) (omega arith))
 
+-- three stores, each behind the one before
+pub splice-three : (d m n r : List ℕ) (at a b : ℕ) (u v w : List ℕ) → m ≡ splice d at u → n ≡ splice m (at + a) v → r ≡ splice n (at + b) w
+    → length u ≡ a → a + length v ≡ b → at + b ≤ length d → r ≡ splice d at (u ++ (v ++ w))
+splice-three d m n r at a b u v w p q s e f h =
+    splice-step d n r at b (u ++ v) w (splice-step d m n at a u v p q e (omega arith)) s (simp length-append (omega arith)) h
+    ∙ ap (splice d at) (append-assoc u v w)
+
+-- four stores, each behind the one before
+pub splice-four : (d m n o r : List ℕ) (at a b c : ℕ) (u v w x : List ℕ) → m ≡ splice d at u → n ≡ splice m (at + a) v → o ≡ splice n (at + b) w
+    → r ≡ splice o (at + c) x → length u ≡ a → a + length v ≡ b → b + length w ≡ c → at + c ≤ length d → r ≡ splice d at (u ++ (v ++ (w ++ x)))
+splice-four d m n o r at a b c u v w x p q s t e f g h =
+    splice-three d n o r at b c (u ++ v) w x (splice-step d m n at a u v p q e (omega arith)) s t (simp length-append (omega arith)) g h
+    ∙ ap (splice d at) (append-assoc u v (w ++ x))
+
 -- ---- tests
 
 pub both-true : (a b : Bool) → both a b ≡ true → (a ≡ true) × (b ≡ true)

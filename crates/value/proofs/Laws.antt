@@ -8,7 +8,8 @@ use lib.Dec.{lit≤, eqb, ltb}
 use lib.ListN.{getD, length, length-append}
 use Rattle.words.specs.Choice.{pick}
 use Rattle.words.proofs.Laws.{bytes-length}
-use Rattle.key.specs.Keys.{keyAt, keyBytes}
+use Rattle.key.specs.Keys.{keyAt}
+use Rattle.key.proofs.Laws.{key-length}
 use Rattle.key.specs.declared.Key.{Key}
 use Rattle.key.specs.declared.KeyRead.{KeyRead}
 use Rattle.key.specs.declared.KeyRead.the-variants as kr
@@ -22,10 +23,6 @@ use Rattle.value.specs.declared.Value.{Value}
 use Rattle.value.specs.declared.Value.the-variants as v
 
 -- ---- written
-
-pub key-length : (k : Key) → length (keyBytes k) ≡ 34
-unfolding keyBytes
-key-length k = simp (length-append, bytes-length)
 
 pub digest-length : (d : Digest) → length (digestBytes d) ≡ 32
 unfolding digestBytes

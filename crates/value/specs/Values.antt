@@ -1,12 +1,12 @@
 -- Values as bytes, and what is read as one (document 01, "Keys, values, messages").
-use Prim.Native.Nat.{ℕ, _+_, _-_}
+use Prim.Native.Nat.{ℕ, _+_, _-_, _^_, _<_}
 use mathlib.Core.List.{List, [], _∷_, _++_}
 use mathlib.Core.Bool.{Bool, true, false}
 use lib.ListN.{length, getD}
 use lib.Dec.{ltb, leb, eqb}
 use Rattle.words.specs.Choice.{pick, both, no}
 use Rattle.words.specs.Numbers.{numberAt, bytesOf}
-use Rattle.key.specs.Keys.{keyAt, keyBytes, wellKey, keyEq, isData}
+use Rattle.key.specs.Keys.{keyAt, keyBytes, wellKey, keyEq, isData, KeyFits}
 use Rattle.key.specs.declared.Key.{Key}
 use Rattle.key.specs.declared.KeyRead.{KeyRead}
 use Rattle.key.specs.declared.KeyRead.the-variants as kr
@@ -117,6 +117,23 @@ unfoldable pub wellValue : Value → Bool
 wellValue v.None = true
 wellValue (v.Fingerprint d) = true
 wellValue (v.Node n) = both (wellSide (n .left)) (wellSide (n .right))
+
+-- ---- every number fits its field, as in every value of the code
+
+pub record DigestFits (d : Digest) : Type 0 where
+  pub d0 : d .d0 < 2 ^ 64
+  pub d1 : d .d1 < 2 ^ 64
+  pub d2 : d .d2 < 2 ^ 64
+  pub d3 : d .d3 < 2 ^ 64
+
+abbrev pub SideFits : Side → Type 0
+SideFits Empty = Unit
+SideFits (Link k d m) = KeyFits k × DigestFits d
+
+abbrev pub ValueFits : Value → Type 0
+ValueFits v.None = Unit
+ValueFits (v.Fingerprint d) = DigestFits d
+ValueFits (v.Node n) = SideFits (n .left) × SideFits (n .right)
 
 -- ---- tests on values
 

@@ -1,5 +1,5 @@
 // Values: none, a fingerprint, or a node of two sides, each empty or a link. 1, 33, 3, 70 or 137 bytes.
-// Promises upward: what is written is read back, what is read is written as the same bytes, and the tests of the entries' checks.
+// Promises upward: what is written is read back, and what is read is written as the same bytes. The tests on values are in `tree`.
 ghost use mathlib.Core.Path.{_≡_};
 ghost use Prim.Native.Nat.{ℕ, _+_, _≤_, _<_};
 ghost use lib.ListN.{length};

@@ -10,7 +10,7 @@ use lib.Dec.{lit<}
 use lib.Arith.{mod-mul, digits-lt, digits-div, digits-mod}
 use lib.ListN.{length, getD, take, drop, set, replicate, length-append, length-take, length-drop, length-replicate, List·getD-append}
 use lib.Seq.{take-append-seam, drop-append-add, drop-drop, set-split, getD-at, getD-append-add, getD-drop, take-suc, take-add}
-use Rattle.words.specs.Choice.{both}
+use Rattle.words.specs.Choice.{pick, both}
 use Rattle.words.specs.Numbers.{numberAt, bytesOf, zeros, Bytes}
 use Rattle.words.specs.Splices.{splice, part}
 
@@ -230,3 +230,18 @@ four-back s at b h =
     (ap (λ (l : List ℕ). part s at 8 ++ (part s (at + 8) 8 ++ l)) (part-join s (at + 16) 8 (at + 24) 8 (omega arith))
     ∙ ap (λ (l : List ℕ). part s at 8 ++ l) (part-join s (at + 8) 8 (at + 16) 16 (omega arith))
     ∙ part-join s at 8 (at + 8) 24 refl)
+
+-- one byte is a part of one byte
+pub part-one : (s : List ℕ) (at : ℕ) → at < length s → part s at 1 ≡ getD s at 0 ∷ []
+part-one s at h = part-suc s at 0 (omega arith) ∙ rw add-zero
+
+-- what makes a part, and what makes the part behind it
+pub part-step : (s : List ℕ) (at m to n k : ℕ) (x y : List ℕ) → x ≡ part s at m → y ≡ part s to n → at + m ≡ to → m + n ≡ k → x ++ y ≡ part s at k
+part-step s at m to n k x y p q e f = rw (p, q) (part-join s at m to n e ∙ ap (part s at) f)
+
+-- ---- choices
+
+-- what a choice came to, by its test
+pub picked : {A C : Type 0} (b : Bool) (x y z : A) → pick b x y ≡ z → (b ≡ true → x ≡ z → C) → (b ≡ false → y ≡ z → C) → C
+picked true x y z e f g = f refl e
+picked false x y z e f g = g refl e

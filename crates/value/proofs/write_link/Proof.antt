@@ -1,4 +1,5 @@
-use Rattle.value.proofs.Laws.{key-length, digest-length}
+use Rattle.value.proofs.Laws.{digest-length}
+use Rattle.key.proofs.Laws.{key-length}
 use Rattle.words.proofs.Laws.{splice-four}
 use mathlib.Core.Path.{refl}
 use Rattle.value.specs.Values.{linkBytes}

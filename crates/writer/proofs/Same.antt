@@ -4,15 +4,14 @@ use mathlib.Core.Path.{_≡_, refl, ap, sym, _∙_}
 use mathlib.Core.List.{List, [], _∷_, _++_}
 use mathlib.Core.Bool.{Bool, true, false, true≢false}
 use native.Mathlib.Omega.{arith}
-use native.Mathlib.Decide.{decLt}
-use lib.ListN.{length, getD, take, drop, length-take, length-drop, List·getD-eq-default}
-use lib.Seq.{take-length, getD-take, getD-drop}
-use lib.Dec.{ltb, eqb, lit<}
+use lib.ListN.{length, getD, take, drop, length-take, length-drop}
+use lib.Seq.{take-length}
+use lib.Dec.{ltb, eqb}
 use borrow.Author.Tests.{ltb-false, eqb-true}
 use Rattle.words.specs.Choice.{both}
 use Rattle.words.specs.Numbers.{numberAt, bytesOf, Bytes}
 use Rattle.words.specs.Splices.{part}
-use Rattle.words.proofs.Laws.{number-lt, bytes-back, part-one, part-step, picked, true-both}
+use Rattle.words.proofs.Laws.{number-lt, bytes-back, part-one, part-step, part-bytes, picked, true-both}
 use Rattle.key.specs.Keys.{keyAt, keyBytes, dataAt, dataBytes, wellKey, isData, KeyFits}
 use Rattle.key.specs.declared.Key.{Key}
 use Rattle.key.specs.declared.KeyRead.{KeyRead}
@@ -203,13 +202,6 @@ pub record EntryThere (log : List ℕ) (e : Entry) (n : ℕ) : Type 0 where
   pub well : wellEntry e ≡ true
   pub fits : EntryFits e
   pub within : n ≤ length log
-
--- a part of bytes is bytes
-part-bytes : (s : List ℕ) (at n : ℕ) → Bytes s → Bytes (part s at n)
-part-bytes s at n b i = elim (decLt i n) [
-  | yes h ↦ rw (getD-take n (drop at s) i 0 h, getD-drop at s i 0) (b (at + i))
-  | no h ↦ rw (List·getD-eq-default (part s at n) 0 {n = i} (rw (length-take n (drop at s)) (omega arith))) (lit< tt)
-]
 
 -- the head of a log is whole
 record HeadThere (log : List ℕ) (t m : ℕ) : Type 0 where

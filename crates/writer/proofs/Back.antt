@@ -73,10 +73,10 @@ module _ (s p : ℕ) (hs : s < 2 ^ 16) (hp : p < 2 ^ 16) (k : Key) (x : Value) (
       let ps : numberAt 2 b 0 ≡ s = number-at 2 s 0 [] (bytesOf 2 p ++ (keyBytes k ++ valueBytes x)) refl hs in
       let pp : numberAt 2 b 2 ≡ p = number-at 2 p 2 (bytesOf 2 s) (keyBytes k ++ valueBytes x) (bytes-length 2 s) hp in
       let pk : keyAt b 4 ≡ kr.Good k
-          = ap (λ (l : List ℕ). keyAt l 4) (simp append-assoc) ∙ key-back k fk 4 (bytesOf 2 s ++ bytesOf 2 p) (valueBytes x) (simp (length-append, bytes-length)) wk in
+      = ap (λ (l : List ℕ). keyAt l 4) (simp append-assoc) ∙ key-back k fk 4 (bytesOf 2 s ++ bytesOf 2 p) (valueBytes x) (simp (length-append, bytes-length)) wk in
       let px : valueAt b 38 ≡ vr.Good x n
-          = ap (λ (l : List ℕ). valueAt l 38) (simp append-assoc)
-          ∙ value-last 38 (bytesOf 2 s ++ (bytesOf 2 p ++ keyBytes k)) x (simp (length-append, bytes-length, key-length)) fx wx in
+      = ap (λ (l : List ℕ). valueAt l 38) (simp append-assoc)
+      ∙ value-last 38 (bytesOf 2 s ++ (bytesOf 2 p ++ keyBytes k)) x (simp (length-append, bytes-length, key-length)) fx wx in
       rw (le-ltb (length b) 38 (omega arith), pk, ps, pp) (ends-row b 38 (AddTree s p k) x n px (sym l))
 
 module _ (s : ℕ) (e : Epoch) (t : Time) (hs : s < 2 ^ 16) (he : e .0 < 2 ^ 64) (ht : t .0 < 2 ^ 64) (k : Key) (x : Value) (fk : KeyFits k) (fx : ValueFits x) (wk : wellKey k ≡ true) (wx : wellValue x ≡ true) where
@@ -89,14 +89,14 @@ module _ (s : ℕ) (e : Epoch) (t : Time) (hs : s < 2 ^ 16) (he : e .0 < 2 ^ 64)
       let ps : numberAt 2 b 0 ≡ s = number-at 2 s 0 [] (bytesOf 8 (e .0) ++ (bytesOf 8 (t .0) ++ (keyBytes k ++ valueBytes x))) refl hs in
       let pe : numberAt 8 b 2 ≡ e .0 = number-at 8 (e .0) 2 (bytesOf 2 s) (bytesOf 8 (t .0) ++ (keyBytes k ++ valueBytes x)) (bytes-length 2 s) he in
       let pt : numberAt 8 b 10 ≡ t .0
-          = ap (λ (l : List ℕ). numberAt 8 l 10) (simp append-assoc)
-          ∙ number-at 8 (t .0) 10 (bytesOf 2 s ++ bytesOf 8 (e .0)) (keyBytes k ++ valueBytes x) (simp (length-append, bytes-length)) ht in
+      = ap (λ (l : List ℕ). numberAt 8 l 10) (simp append-assoc)
+      ∙ number-at 8 (t .0) 10 (bytesOf 2 s ++ bytesOf 8 (e .0)) (keyBytes k ++ valueBytes x) (simp (length-append, bytes-length)) ht in
       let pk : keyAt b 18 ≡ kr.Good k
-          = ap (λ (l : List ℕ). keyAt l 18) (simp append-assoc)
-          ∙ key-back k fk 18 (bytesOf 2 s ++ (bytesOf 8 (e .0) ++ bytesOf 8 (t .0))) (valueBytes x) (simp (length-append, bytes-length)) wk in
+      = ap (λ (l : List ℕ). keyAt l 18) (simp append-assoc)
+      ∙ key-back k fk 18 (bytesOf 2 s ++ (bytesOf 8 (e .0) ++ bytesOf 8 (t .0))) (valueBytes x) (simp (length-append, bytes-length)) wk in
       let px : valueAt b 52 ≡ vr.Good x n
-          = ap (λ (l : List ℕ). valueAt l 52) (simp append-assoc)
-          ∙ value-last 52 (bytesOf 2 s ++ (bytesOf 8 (e .0) ++ (bytesOf 8 (t .0) ++ keyBytes k))) x (simp (length-append, bytes-length, key-length)) fx wx in
+      = ap (λ (l : List ℕ). valueAt l 52) (simp append-assoc)
+      ∙ value-last 52 (bytesOf 2 s ++ (bytesOf 8 (e .0) ++ (bytesOf 8 (t .0) ++ keyBytes k))) x (simp (length-append, bytes-length, key-length)) fx wx in
       rw (le-ltb (length b) 52 (omega arith), pk, ps, pe, pt) (ends-row b 52 (AddDeferred s e t k) x n px (sym l))
 
 pair-of-slots-back : (s p : ℕ) → s < 2 ^ 16 → p < 2 ^ 16 → (make : ℕ → ℕ → Entry) → pairOfSlots (bytesOf 2 s ++ bytesOf 2 p) make ≡ Good (make s p)
@@ -105,7 +105,7 @@ pair-of-slots-back s p hs hp make =
     let b = bytesOf 2 s ++ bytesOf 2 p in
     let ps : numberAt 2 b 0 ≡ s = number-at 2 s 0 [] (bytesOf 2 p) refl hs in
     let pp : numberAt 2 b 2 ≡ p
-        = ap (λ (l : List ℕ). numberAt 2 (bytesOf 2 s ++ l) 2) (sym (append-nil (bytesOf 2 p))) ∙ number-at 2 p 2 (bytesOf 2 s) [] (bytes-length 2 s) hp in
+    = ap (λ (l : List ℕ). numberAt 2 (bytesOf 2 s ++ l) 2) (sym (append-nil (bytesOf 2 p))) ∙ number-at 2 p 2 (bytesOf 2 s) [] (bytes-length 2 s) hp in
     rw (eq-eqb (length b) 4 (simp (length-append, bytes-length)), ps, pp)
 
 record-back : (s : ℕ) (k : Key) (x : Value) → s < 2 ^ 16 → KeyFits k → ValueFits x → isData k ≡ true → wellValue x ≡ true → (make : ℕ → Key → Value → Entry)
@@ -118,8 +118,8 @@ record-back s k x hs fk fx wk wx make =
     let ps : numberAt 2 b 0 ≡ s = number-at 2 s 0 [] (dataBytes k ++ valueBytes x) refl hs in
     let pk : dataAt b 2 ≡ k = data-back k fk 2 (bytesOf 2 s) (valueBytes x) (bytes-length 2 s) ∙ data-ext k wk in
     let px : valueAt b 34 ≡ vr.Good x n
-        = ap (λ (l : List ℕ). valueAt l 34) (simp append-assoc)
-        ∙ value-last 34 (bytesOf 2 s ++ dataBytes k) x (simp (length-append, bytes-length, data-length)) fx wx in
+    = ap (λ (l : List ℕ). valueAt l 34) (simp append-assoc)
+    ∙ value-last 34 (bytesOf 2 s ++ dataBytes k) x (simp (length-append, bytes-length, data-length)) fx wx in
     rw (le-ltb (length b) 34 (omega arith), pk, ps) (ends-row b 34 (make s k) x n px (sym l))
 
 absent-back : (p : ℕ) (k : Key) → p < 2 ^ 16 → KeyFits k → isData k ≡ true → absentAt (bytesOf 2 p ++ dataBytes k) ≡ Good (Absent p k)
@@ -128,7 +128,7 @@ absent-back p k hp fk wk =
     let b = bytesOf 2 p ++ dataBytes k in
     let pp : numberAt 2 b 0 ≡ p = number-at 2 p 0 [] (dataBytes k) refl hp in
     let pk : dataAt b 2 ≡ k
-        = ap (λ (l : List ℕ). dataAt (bytesOf 2 p ++ l) 2) (sym (append-nil (dataBytes k))) ∙ data-back k fk 2 (bytesOf 2 p) [] (bytes-length 2 p) ∙ data-ext k wk in
+    = ap (λ (l : List ℕ). dataAt (bytesOf 2 p ++ l) 2) (sym (append-nil (dataBytes k))) ∙ data-back k fk 2 (bytesOf 2 p) [] (bytes-length 2 p) ∙ data-ext k wk in
     rw (eq-eqb (length b) 34 (simp (length-append, bytes-length, data-length)), pp, pk)
 
 evict-deferred-back : (s : ℕ) → s < 2 ^ 16 → evictDeferredAt (bytesOf 2 s) ≡ Good (EvictDeferred s)

@@ -12,7 +12,7 @@ use lib.Pow.{shl-exact}
 use Rattle.words.specs.Choice.{pick}
 use Rattle.words.specs.Numbers.{numberAt, bytesOf, Bytes}
 use Rattle.words.specs.Splices.{part}
-use Rattle.words.proofs.Laws.{bytes-length, number-at, number-lt, bytes-back, part-join, fourWords, four-length, four-at, four-back, both-true}
+use Rattle.words.proofs.Laws.{bytes-length, number-at, number-lt, bytes-back, part-join, fourWords, four-length, four-at, four-back, four-bytes, append-bytes, number-bytes, both-true}
 use Rattle.key.specs.Keys.{keyAt, rawKey, dataAt, dataKey, isData, wellKey, keyBytes, dataBytes, KeyFits, keyEq, sameTop, clean}
 use Rattle.key.specs.declared.Key.{Key}
 use Rattle.key.specs.declared.KeyRead.the-variants.{Good, Bad}
@@ -97,6 +97,13 @@ key-join k = refl
 
 pub key-length : (k : Key) → length (keyBytes k) ≡ 34
 key-length k = rw (key-join, length-append, bytes-length, data-length)
+
+pub data-bytes : (k : Key) → Bytes (dataBytes k)
+unfolding dataBytes
+data-bytes k = four-bytes (k .w0) (k .w1) (k .w2) (k .w3)
+
+pub key-bytes : (k : Key) → Bytes (keyBytes k)
+key-bytes k = rw (key-join k) (append-bytes (bytesOf 2 (k .len)) (dataBytes k) (number-bytes 2 (k .len)) (data-bytes k))
 
 -- what is written as a data key's bytes is read as the data key of those words, wherever it stands and whatever follows
 pub data-back : (k : Key) → KeyFits k → (at : ℕ) (p r : List ℕ) → length p ≡ at

@@ -1,8 +1,5 @@
+use Rattle.words.proofs.Laws.{splice-four, bytes-length}
 use Rattle.key.specs.Keys.{dataBytes}
-use lib.ListN.{length-append}
-use Rattle.words.proofs.Laws.{splice-step, bytes-length}
-use mathlib.Core.List.{append-assoc}
-use mathlib.Core.Path.{_∙_}
 use borrow.Author.Needs.{needs}
 use Rattle.key.proofs.Key.write_data.Statement.{statement}
 use Rattle.key.proofs.Key.write_data.Tie as tie
@@ -33,9 +30,7 @@ same-length c = search needs
 
 returns : tie.Need-returns
 unfolding dataBytes
-returns c = let two = splice-step _ _ _ _ 8 _ _ (c .before .before .before .before .before .before .before .before .before .before .before .before .before .before .put-word .ensures) (c .before .before .before .before .before .before .before .before .before .before .put-word2 .ensures) (bytes-length 8 _) (search needs) in
-    let three = splice-step _ _ _ _ 16 _ _ two (c .before .before .before .before .before .before .put-word3 .ensures) (simp (length-append, bytes-length)) (search needs) in
-    splice-step _ _ _ _ 24 _ _ three (c .before .before .put-word4 .ensures) (simp (length-append, bytes-length)) (search needs) ∙ simp append-assoc
+returns c = splice-four _ _ _ _ _ _ 8 16 24 _ _ _ _ (c .before .before .before .before .before .before .before .before .before .before .before .before .before .before .put-word .ensures) (c .before .before .before .before .before .before .before .before .before .before .put-word2 .ensures) (c .before .before .before .before .before .before .put-word3 .ensures) (c .before .before .put-word4 .ensures) (bytes-length 8 _) (simp bytes-length) (simp bytes-length) (search needs)
 
 pub write-data-spec : {M : Type 1} → statement M
 write-data-spec =

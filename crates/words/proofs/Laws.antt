@@ -5,11 +5,12 @@ use mathlib.Core.List.{List, [], _∷_, _++_, append-assoc, append-nil}
 use mathlib.Core.Bool.{Bool, true, false, false≢true}
 use native.Mathlib.Nat.{mod-eq-of-lt, add-assoc, add-zero, add-suc, one-le-pow, mod-lt, div-one, div-div-eq-div-mul, mul-comm, mul-assoc, pow-suc, add-sub-cancel-left, sub-zero, zero-sub, suc-sub-suc, zero-add, div-add-mod', div-lt-iff-lt-mul}
 use native.Mathlib.Numerals.{add-one}
+use native.Mathlib.Decide.{decLt}
 use native.Mathlib.Omega.{arith}
 use lib.Dec.{lit<}
 use lib.Arith.{mod-mul, digits-lt, digits-div, digits-mod}
-use lib.ListN.{length, getD, take, drop, set, replicate, length-append, length-take, length-drop, length-replicate, take-append-drop, List·getD-append}
-use lib.Seq.{take-append-seam, drop-append-add, drop-drop, set-split, getD-at, getD-append-add, getD-drop, take-suc, take-at, length-take-le, take-add}
+use lib.ListN.{length, getD, take, drop, set, replicate, length-append, length-take, length-drop, length-replicate, take-append-drop, List·getD-append, List·getD-eq-default}
+use lib.Seq.{take-append-seam, drop-append-add, drop-drop, set-split, getD-at, getD-append-add, getD-drop, take-suc, take-at, length-take-le, take-add, getD-take}
 use Rattle.words.specs.Choice.{pick, both}
 use Rattle.words.specs.Numbers.{numberAt, bytesOf, zeros, Bytes}
 use Rattle.words.specs.Splices.{splice, part}
@@ -266,3 +267,34 @@ part-step s at m to n k x y p q e f = rw (p, q) (part-join s at m to n e ∙ ap 
 pub picked : {A C : Type 0} (b : Bool) (x y z : A) → pick b x y ≡ z → (b ≡ true → x ≡ z → C) → (b ≡ false → y ≡ z → C) → C
 picked true x y z e f g = f refl e
 picked false x y z e f g = g refl e
+
+-- ---- what is written is bytes
+
+pub append-bytes : (a b : List ℕ) → Bytes a → Bytes b → Bytes (a ++ b)
+append-bytes [] b p q i = q i
+append-bytes (x ∷ a) b p q zero = p 0
+append-bytes (x ∷ a) b p q (suc i) = append-bytes a b (λ j. p (suc j)) q i
+
+pub no-bytes : Bytes []
+no-bytes i = lit< tt
+
+pub one-byte : (x : ℕ) → x < 256 → Bytes (x ∷ [])
+one-byte x h zero = h
+one-byte x h (suc i) = no-bytes i
+
+pub number-bytes : (n x : ℕ) → Bytes (bytesOf n x)
+unfolding bytesOf
+number-bytes zero x = no-bytes
+number-bytes (suc n) x = append-bytes (bytesOf n (x / 256)) (x % 256 ∷ []) (number-bytes n (x / 256)) (one-byte (x % 256) (mod-lt x (lit< tt)))
+
+-- a part of bytes is bytes
+pub part-bytes : (s : List ℕ) (at n : ℕ) → Bytes s → Bytes (part s at n)
+part-bytes s at n b i = elim (decLt i n) [
+  | yes h ↦ rw (getD-take n (drop at s) i 0 h, getD-drop at s i 0) (b (at + i))
+  | no h ↦ rw (List·getD-eq-default (part s at n) 0 {n = i} (rw (length-take n (drop at s)) (omega arith))) (lit< tt)
+]
+
+pub four-bytes : (a b c d : ℕ) → Bytes (fourWords a b c d)
+four-bytes a b c d =
+    append-bytes (bytesOf 8 a) _ (number-bytes 8 a)
+    (append-bytes (bytesOf 8 b) _ (number-bytes 8 b) (append-bytes (bytesOf 8 c) (bytesOf 8 d) (number-bytes 8 c) (number-bytes 8 d)))

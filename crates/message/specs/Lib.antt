@@ -1,0 +1,2 @@
+-- Epochs, times and the deferred message.
+pub mod Messages

@@ -1,0 +1,2 @@
+-- The writer of entries.
+pub mod Writings

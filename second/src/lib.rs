@@ -1,3 +1,7 @@
-//! The second program: the standards and document 01 written again, in Rust with std alone, to compare with.
+//! The second program: digests, tags, forms and rules written anew from the standards and document 01, to compare with.
+//! It shares nothing with the proved code.
+
 pub mod aes;
 pub mod cmac;
+pub mod sha256;
+pub mod term;

@@ -2,13 +2,15 @@
 use Prim.Native.Nat.{ℕ, zero, suc, _+_, _*_, _-_, _/_, _%_, _^_, _≤_, _<_}
 use mathlib.Core.Path.{_≡_, refl, ap, sym, _∙_}
 use mathlib.Core.List.{List, [], _∷_, _++_, append-assoc, append-nil}
+use mathlib.Core.Bool.{Bool, true, false, false≢true}
 use native.Mathlib.Nat.{mod-eq-of-lt, add-assoc, add-zero, add-suc, one-le-pow, mod-lt, div-one, div-div-eq-div-mul, mul-comm, mul-assoc, pow-suc, add-sub-cancel-left, sub-zero, zero-sub, suc-sub-suc, zero-add, div-add-mod', div-lt-iff-lt-mul}
 use native.Mathlib.Numerals.{add-one}
 use native.Mathlib.Omega.{arith}
 use lib.Dec.{lit<}
 use lib.Arith.{mod-mul, digits-lt, digits-div, digits-mod}
-use lib.ListN.{length, getD, take, drop, set, replicate, length-append, length-take, length-drop, length-replicate, List·getD-append}
-use lib.Seq.{take-append-seam, drop-append-add, drop-drop, set-split, getD-at, getD-append-add, getD-drop, take-suc}
+use lib.ListN.{length, getD, take, drop, set, replicate, length-append, length-take, length-drop, length-replicate, take-append-drop, List·getD-append}
+use lib.Seq.{take-append-seam, drop-append-add, drop-drop, set-split, getD-at, getD-append-add, getD-drop, take-suc, take-at, length-take-le, take-add}
+use Rattle.words.specs.Choice.{pick, both}
 use Rattle.words.specs.Numbers.{numberAt, bytesOf, zeros, Bytes}
 use Rattle.words.specs.Splices.{splice, part}
 
@@ -121,6 +123,13 @@ module _ (d v : List ℕ) (at n : ℕ) (e : length v ≡ n) (fits : at + n ≤ l
       ∙ splice-at (take at d ++ v) (drop (at + length v) d) w (at + n) h
       ∙ simp (append-assoc, drop-drop, length-append, add-assoc)
 
+-- what stands up to the end of what was put in
+pub take-splice : (d v : List ℕ) (at n : ℕ) → length v ≡ n → at ≤ length d → take (at + n) (splice d at v) ≡ take at d ++ v
+unfolding splice
+take-splice d v at n e h =
+    rw (← append-assoc (take at d) v (drop (at + length v) d))
+    (take-at (take at d ++ v) (drop (at + length v) d) (at + n) (simp (length-append, length-take) (omega arith)))
+
 -- one store
 pub set-splice : (d : List ℕ) (at x : ℕ) → at < length d → set d at x ≡ splice d at (x ∷ [])
 unfolding splice
@@ -154,3 +163,106 @@ pub put-join : (a b : ℕ) (d m r : List ℕ) (at x : ℕ) → m ≡ splice d at
     → at + (a + b) ≤ length d → r ≡ splice d at (bytesOf (a + b) x)
 put-join a b d m r at x p q h =
     rw bytes-split (splice-step d m r at a (bytesOf a (x / 256 ^ b)) (bytesOf b (x % 256 ^ b)) p q (bytes-length a (x / 256 ^ b)) (omega arith))
+
+-- ---- a copy, byte by byte
+
+pub copy-none : (d s : List ℕ) (at : ℕ) → d ≡ splice d at (take 0 s)
+unfolding splice
+copy-none d s at = rw add-zero (sym (take-append-drop at d))
+
+pub copy-more : (d s : List ℕ) (at i : ℕ) → i < length s → at + length s ≤ length d → set (splice d at (take i s)) (at + i) (getD s i 0) ≡ splice d at (take (i + 1) s)
+copy-more d s at i h f =
+    let n : length (take i s) ≡ i = length-take-le i s (omega arith) in
+    let g : length (splice d at (take i s)) ≡ length d = splice-length d (take i s) at i n (omega arith) in
+    set-splice (splice d at (take i s)) (at + i) (getD s i 0) (omega arith)
+    ∙ splice-join d (take i s) at i n (omega arith) (getD s i 0 ∷ [])
+    ∙ ap (splice d at) (sym (rw add-one (take-suc s i 0 h)))
+
+-- three stores, each behind the one before
+pub splice-three : (d m n r : List ℕ) (at a b : ℕ) (u v w : List ℕ) → m ≡ splice d at u → n ≡ splice m (at + a) v → r ≡ splice n (at + b) w
+    → length u ≡ a → a + length v ≡ b → at + b ≤ length d → r ≡ splice d at (u ++ (v ++ w))
+splice-three d m n r at a b u v w p q s e f h =
+    splice-step d n r at b (u ++ v) w (splice-step d m n at a u v p q e (omega arith)) s (simp length-append (omega arith)) h
+    ∙ ap (splice d at) (append-assoc u v w)
+
+-- four stores, each behind the one before
+pub splice-four : (d m n o r : List ℕ) (at a b c : ℕ) (u v w x : List ℕ) → m ≡ splice d at u → n ≡ splice m (at + a) v → o ≡ splice n (at + b) w
+    → r ≡ splice o (at + c) x → length u ≡ a → a + length v ≡ b → b + length w ≡ c → at + c ≤ length d → r ≡ splice d at (u ++ (v ++ (w ++ x)))
+splice-four d m n o r at a b c u v w x p q s t e f g h =
+    splice-three d n o r at b c (u ++ v) w x (splice-step d m n at a u v p q e (omega arith)) s t (simp length-append (omega arith)) g h
+    ∙ ap (splice d at) (append-assoc u v (w ++ x))
+
+-- ---- tests
+
+pub both-true : (a b : Bool) → both a b ≡ true → (a ≡ true) × (b ≡ true)
+both-true true b e = (refl, e)
+both-true false b e = absurd (false≢true e)
+
+pub true-both : (a b : Bool) → a ≡ true → b ≡ true → both a b ≡ true
+true-both a b p q = rw (p, q)
+
+-- ---- numbers at a place
+
+-- what is written as a number of n bytes is read as that number, wherever it stands and whatever follows
+pub number-at : (n x at : ℕ) (p r : List ℕ) → length p ≡ at → x < 256 ^ n → numberAt n (p ++ (bytesOf n x ++ r)) at ≡ x
+number-at n x at p r e h =
+    ap (numberAt n (p ++ (bytesOf n x ++ r))) (sym (add-zero at)) ∙ number-behind n p (bytesOf n x ++ r) 0 at e ∙ number-back n x r h
+
+-- two parts side by side make one
+pub part-join : (s : List ℕ) (at m to n : ℕ) → at + m ≡ to → part s at m ++ part s to n ≡ part s at (m + n)
+part-join s at m to n e = rw (← e, take-add m n (drop at s), drop-drop)
+
+-- four words side by side, as a data key and a digest have them
+abbrev pub fourWords : ℕ → ℕ → ℕ → ℕ → List ℕ
+fourWords a b c d = bytesOf 8 a ++ (bytesOf 8 b ++ (bytesOf 8 c ++ bytesOf 8 d))
+
+pub four-length : (a b c d : ℕ) → length (fourWords a b c d) ≡ 32
+four-length a b c d = simp (length-append, bytes-length)
+
+-- four words stand at a place
+pub record FourAt (s : List ℕ) (at a b c d : ℕ) : Type 0 where
+  pub first : numberAt 8 s at ≡ a
+  pub second : numberAt 8 s (at + 8) ≡ b
+  pub third : numberAt 8 s (at + 16) ≡ c
+  pub fourth : numberAt 8 s (at + 24) ≡ d
+
+-- what is written as four words is read as those
+pub four-at : (a b c d at : ℕ) (p r : List ℕ) → length p ≡ at → a < 2 ^ 64 → b < 2 ^ 64 → c < 2 ^ 64 → d < 2 ^ 64
+    → FourAt (p ++ (fourWords a b c d ++ r)) at a b c d
+four-at a b c d at p r e ha hb hc hd =
+    record {
+      first = ap (λ (s : List ℕ). numberAt 8 s at) (simp append-assoc) ∙ number-at 8 a at p (bytesOf 8 b ++ (bytesOf 8 c ++ (bytesOf 8 d ++ r))) e ha;
+      second =
+          ap (λ (s : List ℕ). numberAt 8 s (at + 8)) (simp append-assoc)
+          ∙ number-at 8 b (at + 8) (p ++ bytesOf 8 a) (bytesOf 8 c ++ (bytesOf 8 d ++ r)) (simp (length-append, bytes-length, e)) hb;
+      third =
+          ap (λ (s : List ℕ). numberAt 8 s (at + 16)) (simp append-assoc)
+          ∙ number-at 8 c (at + 16) (p ++ (bytesOf 8 a ++ bytesOf 8 b)) (bytesOf 8 d ++ r) (simp (length-append, bytes-length, e)) hc;
+      fourth =
+          ap (λ (s : List ℕ). numberAt 8 s (at + 24)) (simp append-assoc)
+          ∙ number-at 8 d (at + 24) (p ++ (bytesOf 8 a ++ (bytesOf 8 b ++ bytesOf 8 c))) r (simp (length-append, bytes-length, e)) hd;
+    }
+
+-- what is read as four words is written as those bytes
+pub four-back : (s : List ℕ) (at : ℕ) → Bytes s → at + 32 ≤ length s
+    → fourWords (numberAt 8 s at) (numberAt 8 s (at + 8)) (numberAt 8 s (at + 16)) (numberAt 8 s (at + 24)) ≡ part s at 32
+four-back s at b h =
+    rw (bytes-back 8 s at b (omega arith), bytes-back 8 s (at + 8) b (omega arith), bytes-back 8 s (at + 16) b (omega arith), bytes-back 8 s (at + 24) b (omega arith))
+    (ap (λ (l : List ℕ). part s at 8 ++ (part s (at + 8) 8 ++ l)) (part-join s (at + 16) 8 (at + 24) 8 (omega arith))
+    ∙ ap (λ (l : List ℕ). part s at 8 ++ l) (part-join s (at + 8) 8 (at + 16) 16 (omega arith))
+    ∙ part-join s at 8 (at + 8) 24 refl)
+
+-- one byte is a part of one byte
+pub part-one : (s : List ℕ) (at : ℕ) → at < length s → part s at 1 ≡ getD s at 0 ∷ []
+part-one s at h = part-suc s at 0 (omega arith) ∙ rw add-zero
+
+-- what makes a part, and what makes the part behind it
+pub part-step : (s : List ℕ) (at m to n k : ℕ) (x y : List ℕ) → x ≡ part s at m → y ≡ part s to n → at + m ≡ to → m + n ≡ k → x ++ y ≡ part s at k
+part-step s at m to n k x y p q e f = rw (p, q) (part-join s at m to n e ∙ ap (part s at) f)
+
+-- ---- choices
+
+-- what a choice came to, by its test
+pub picked : {A C : Type 0} (b : Bool) (x y z : A) → pick b x y ≡ z → (b ≡ true → x ≡ z → C) → (b ≡ false → y ≡ z → C) → C
+picked true x y z e f g = f refl e
+picked false x y z e f g = g refl e

@@ -92,3 +92,16 @@ pub fn put_word(s: &mut [u8], at: usize, x: u64)
     put_quad(s, at, x / 4294967296);
     put_quad(s, at + 4, x % 4294967296);
 }
+
+// The bytes of src; where they end. Inner.
+pub fn put_bytes(out: &mut [u8], at: usize, src: &[u8]) -> usize
+    requires { ⌜ at + length (now src) ≤ length (now out) ⌝ }
+    ensures { λ r. ⌜ (r ≡ at + length (now (src .entry))) × (now (out .exit) ≡ splice (now (out .entry)) at (now (src .entry))) ⌝ }
+{
+    let mut i = 0;
+    while i < src.len() {
+        out[at + i] = src[i];
+        i += 1;
+    }
+    at + i
+}

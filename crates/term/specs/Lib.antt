@@ -1,0 +1,2 @@
+-- Term keys and fingerprints.
+pub mod Terms

@@ -1,0 +1,2 @@
+-- What the exported calls write.
+pub mod Answers

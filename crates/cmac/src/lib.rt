@@ -1,0 +1,210 @@
+// AES-CMAC (RFC 4493): the tag of a message, and sums of tags.
+// The tag call is public and refuses long messages; `mac` serves the crates above on lent buffers.
+ghost use mathlib.Core.Path.{_≡_};
+ghost use Prim.Native.Nat.{ℕ, _+_, _*_, _^_, _≤_, _<_};
+ghost use lib.ListN.{length};
+ghost use Rattle.aes.specs.Aes.{cipher, blockBytes, table};
+ghost use Rattle.cmac.specs.Cmac.{zeroBlock, xorBlock, double, key1, key2, whole, chain, padding, lastBlock, macBlock, cmac};
+ghost use Rattle.cmac.specs.Tags.{tagWords, tagXor, tagEq, tagWith, tagOf};
+
+// The longest message of a tag call (document 01).
+pub const MESSAGE_LIMIT: usize = 65536;
+
+// A tag, or a sum of tags: sixteen bytes as two words, high byte first.
+pub struct Tag {
+    pub t0: u64,
+    pub t1: u64,
+}
+
+// The answer of a tag call: 0 and the tag, or 30 and sixteen zero bytes.
+pub struct TagAnswer {
+    pub verdict: u32,
+    pub bytes: [u8; 16],
+}
+
+impl Tag {
+    // The sum of no tags.
+    pub const ZERO: Tag = Tag { t0: 0, t1: 0 };
+
+    pub fn xor(self, other: Tag) -> Tag
+        ensures { λ r. ⌜ r ≡ tagXor self other ⌝ }
+    {
+        Tag {
+            t0: self.t0 ^ other.t0,
+            t1: self.t1 ^ other.t1,
+        }
+    }
+
+    pub fn same(self, other: Tag) -> bool
+        ensures { λ r. ⌜ r ≡ tagEq self other ⌝ }
+    {
+        words::and(self.t0 == other.t0, self.t1 == other.t1)
+    }
+}
+
+fn zero_block() -> aes::Block
+    ensures { λ r. ⌜ r ≡ zeroBlock ⌝ }
+{
+    aes::Block {
+        w0: 0,
+        w1: 0,
+        w2: 0,
+        w3: 0,
+    }
+}
+
+fn xored(s: aes::Block, t: aes::Block) -> aes::Block
+    ensures { λ r. ⌜ r ≡ xorBlock s t ⌝ }
+{
+    aes::Block {
+        w0: s.w0 ^ t.w0,
+        w1: s.w1 ^ t.w1,
+        w2: s.w2 ^ t.w2,
+        w3: s.w3 ^ t.w3,
+    }
+}
+
+fn doubled(s: aes::Block) -> aes::Block
+    ensures { λ r. ⌜ r ≡ double s ⌝ }
+{
+    aes::Block {
+        w0: (s.w0 << 1) + (s.w1 >> 31),
+        w1: (s.w1 << 1) + (s.w2 >> 31),
+        w2: (s.w2 << 1) + (s.w3 >> 31),
+        w3: s.w3 << 1 ^ (s.w0 >> 31) * 0x87,
+    }
+}
+
+// How many blocks stand before the last.
+fn before_last(n: usize) -> usize
+    ensures { λ r. ⌜ r ≡ whole n ⌝ }
+{
+    if n == 0 {
+        0
+    } else {
+        (n - 1) / aes::BLOCK_BYTES
+    }
+}
+
+// Inner.
+fn chained(t: &[u32; 256], k: &[u32; 44], m: &[u8], n: usize) -> aes::Block
+    requires { ⌜ (now t ≡ table) × (16 * n ≤ length (now m)) ⌝ }
+    ensures { λ r. ⌜ r ≡ chain (now (k .entry)) (now (m .entry)) n ⌝ }
+{
+    let mut x = zero_block();
+    let mut i: usize = 0;
+    while i < n {
+        x = aes::encrypt_block(t, k, xored(x, aes::block_at(m, aes::BLOCK_BYTES * i)));
+        i += 1;
+    }
+    x
+}
+
+// A last block that is not whole, filled up. Inner.
+fn filled(l: &[u8]) -> [u8; 16]
+    requires { ⌜ length (now l) < 16 ⌝ }
+    ensures { λ r. ⌜ r ≡ padding (now (l .entry)) ⌝ }
+{
+    let mut b = [0u8; 16];
+    let mut i: usize = 0;
+    while i < l.len() {
+        b[i] = l[i];
+        i += 1;
+    }
+    b[i] = 0x80;
+    b
+}
+
+// The first subkey. Inner.
+fn subkey(t: &[u32; 256], k: &[u32; 44]) -> aes::Block
+    requires { ⌜ now t ≡ table ⌝ }
+    ensures { λ r. ⌜ r ≡ key1 (now (k .entry)) ⌝ }
+{
+    doubled(aes::encrypt_block(t, k, zero_block()))
+}
+
+// The last block, with its subkey. Inner.
+fn last_block(t: &[u32; 256], k: &[u32; 44], l: &[u8]) -> aes::Block
+    requires { ⌜ (now t ≡ table) × (length (now l) ≤ 16) ⌝ }
+    ensures { λ r. ⌜ r ≡ lastBlock (now (k .entry)) (now (l .entry)) ⌝ }
+{
+    let k1 = subkey(t, k);
+    if l.len() == aes::BLOCK_BYTES {
+        xored(aes::block_at(l, 0), k1)
+    } else {
+        let b = filled(l);
+        xored(aes::block_at(&b, 0), doubled(k1))
+    }
+}
+
+// The tag as a block, with table and key words lent. Inner.
+fn mac_block(t: &[u32; 256], k: &[u32; 44], m: &[u8]) -> aes::Block
+    requires { ⌜ now t ≡ table ⌝ }
+    ensures { λ r. ⌜ r ≡ macBlock (now (k .entry)) (now (m .entry)) ⌝ }
+{
+    let q = before_last(m.len());
+    let at = aes::BLOCK_BYTES * q;
+    let x = chained(t, k, m, q);
+    let y = last_block(t, k, &m[at..]);
+    aes::encrypt_block(t, k, xored(x, y))
+}
+
+fn joined(high: u32, low: u32) -> u64
+    ensures { λ r. ⌜ (r ≡ high * 2 ^ 32 + low) × (high < 2 ^ 32) × (low < 2 ^ 32) ⌝ }
+{
+    (high as u64) * 4294967296 + (low as u64)
+}
+
+// A block as a tag.
+fn tag_words(s: aes::Block) -> Tag
+    ensures { λ r. ⌜ r ≡ tagWords (blockBytes s) ⌝ }
+{
+    Tag {
+        t0: joined(s.w0, s.w1),
+        t1: joined(s.w2, s.w3),
+    }
+}
+
+// The tag of m, of any length, as words.
+pub fn mac(key: aes::Expanded, m: &[u8]) -> Tag
+    ensures { λ r. ⌜ r ≡ tagWords (cmac (key .bytes) (now (m .entry))) ⌝ }
+{
+    let t = aes::lay_table();
+    let b = key.bytes;
+    let k = aes::key_words(&b);
+    tag_words(mac_block(&t, &k, m))
+}
+
+// The tag of m, of any length, as bytes.
+fn mac_bytes(key: aes::Expanded, m: &[u8]) -> [u8; 16]
+    ensures { λ r. ⌜ r ≡ cmac (key .bytes) (now (m .entry)) ⌝ }
+{
+    let t = aes::lay_table();
+    let b = key.bytes;
+    let k = aes::key_words(&b);
+    aes::block_bytes(mac_block(&t, &k, m))
+}
+
+// The tag call under an expanded key.
+pub fn tag_with(key: aes::Expanded, m: &[u8]) -> TagAnswer
+    ensures { λ r. ⌜ r ≡ tagWith (key .bytes) (now (m .entry)) ⌝ }
+{
+    if MESSAGE_LIMIT < m.len() {
+        return TagAnswer {
+            verdict: verdict::TOO_LONG,
+            bytes: [0u8; 16],
+        };
+    }
+    let b = mac_bytes(key, m);
+    TagAnswer {
+        verdict: verdict::ACCEPTED,
+        bytes: b,
+    }
+}
+
+// The tag call under a set key.
+pub fn tag_of(key: &[u8; 16], m: &[u8]) -> TagAnswer
+    ensures { λ r. ⌜ r ≡ tagOf (now (key .entry)) (now (m .entry)) ⌝ }
+{
+    tag_with(aes::expand(key), m)
+}

@@ -1,0 +1,2 @@
+-- The digest of a value, and the tag of a message.
+pub mod Hashes

@@ -1,0 +1,27 @@
+// The rules: what each entry comes to, for any state and cache, as definitions (specs/) that the verifier's code, its reader and the
+// theorem about settled answers share. The declared types are those that the code returns.
+// Promises upward: document 01's examples M1 to M12 follow from the definitions; a refused entry changes nothing; an accepted one keeps
+// the state well formed.
+
+use state::State;
+use state::Tally;
+
+// What an entry comes to: the verdict, and the state after it.
+pub struct Done {
+    pub verdict: u32,
+    pub state: State,
+}
+
+// What a step returns: the verdict, the next state, and the bytes used.
+pub struct Stepped {
+    pub verdict: u32,
+    pub state: State,
+    pub used: usize,
+}
+
+// The epoch that a deferred add names: the current one, the open old one with its tally, or none that is open.
+pub enum Named {
+    Current,
+    Old(Tally),
+    NotOpen,
+}

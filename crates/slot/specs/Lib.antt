@@ -1,0 +1,2 @@
+-- A slot of the cache: 192 bytes.
+pub mod Slots

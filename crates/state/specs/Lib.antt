@@ -1,0 +1,2 @@
+-- The trusted state, and opening.
+pub mod States

@@ -17,6 +17,9 @@ pub const KEY_BYTES: usize = 34;
 
 pub const DATA_BYTES: usize = 32;
 
+// A key's length stands before its bits.
+const LENGTH_BYTES: usize = 2;
+
 // The bits that one word, two and three hold.
 const ONE_WORD: u64 = 64;
 
@@ -204,7 +207,7 @@ impl Key {
         requires { ⌜ at + 34 ≤ length (now s) ⌝ }
         ensures { λ r. ⌜ r ≡ keyAt (now (s .entry)) at ⌝ }
     {
-        let mut k = Key::read_data(s, at + 2);
+        let mut k = Key::read_data(s, at + LENGTH_BYTES);
         k.len = pair_at(s, at) as u16;
         if k.well() {
             KeyRead::Good(k)
@@ -233,6 +236,6 @@ impl Key {
         ensures { λ _. ⌜ now (s .exit) ≡ splice (now (s .entry)) at (keyBytes self) ⌝ }
     {
         put_pair(s, at, self.len as u64);
-        self.write_data(s, at + 2);
+        self.write_data(s, at + LENGTH_BYTES);
     }
 }

@@ -25,7 +25,7 @@ const EMPTY_TAG: u8 = 0;
 const LINK_TAG: u8 = 1;
 
 // A tag alone: the value none, and the empty side.
-const TAG_BYTES: usize = 1;
+pub const TAG_BYTES: usize = 1;
 
 pub const FINGERPRINT_BYTES: usize = 33;
 
@@ -39,7 +39,9 @@ const LINK_DIGEST: usize = 35;
 
 const LINK_MARK: usize = 67;
 
-// The widest mark.
+// A link's mark, 0 or 1.
+const UNMARKED: u8 = 0;
+
 const MARKED: u8 = 1;
 
 // 32 bytes, as four words.
@@ -122,7 +124,7 @@ impl Digest {
 fn mark_byte(m: bool) -> u8
     ensures { λ r. ⌜ r ≡ markByte m ⌝ }
 {
-    if m { 1 } else { 0 }
+    if m { MARKED } else { UNMARKED }
 }
 
 // A link, whose tag has been looked at. Inner.

@@ -12,7 +12,7 @@ use lib.Pow.{shl-exact}
 use Rattle.words.specs.Choice.{pick}
 use Rattle.words.specs.Numbers.{numberAt, bytesOf, Bytes}
 use Rattle.words.specs.Splices.{part}
-use Rattle.words.proofs.Laws.{bytes-length, number-at, number-lt, bytes-back, part-join, fourWords, four-length, four-at, four-back, four-bytes, append-bytes, number-bytes, both-true}
+use Rattle.words.proofs.Laws.{bytes-length, number-at, number-lt, bytes-back, part-join, four-length, four-at, four-back, four-bytes, append-bytes, number-bytes, both-true}
 use Rattle.key.specs.Keys.{keyAt, rawKey, dataAt, dataKey, isData, wellKey, keyBytes, dataBytes, KeyFits, keyEq, sameTop, clean}
 use Rattle.key.specs.declared.Key.{Key}
 use Rattle.key.specs.declared.KeyRead.the-variants.{Good, Bad}

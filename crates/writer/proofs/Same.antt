@@ -11,7 +11,7 @@ use borrow.Author.Tests.{ltb-false, eqb-true}
 use Rattle.words.specs.Choice.{both}
 use Rattle.words.specs.Numbers.{numberAt, bytesOf, Bytes}
 use Rattle.words.specs.Splices.{part}
-use Rattle.words.proofs.Laws.{number-lt, bytes-back, part-one, part-step, part-bytes, picked, true-both}
+use Rattle.words.proofs.Laws.{number-lt, bytes-back, part-one, part-step, part-bytes, picked, true-both, never}
 use Rattle.key.specs.Keys.{keyAt, keyBytes, dataAt, dataBytes, wellKey, isData, KeyFits}
 use Rattle.key.specs.declared.Key.{Key}
 use Rattle.key.specs.declared.KeyRead.{KeyRead}
@@ -31,9 +31,6 @@ use Rattle.entry.specs.declared.Head.{Head}
 use Rattle.entry.specs.declared.Head.the-variants.{Cut, Whole}
 use Rattle.entry.specs.declared.Reading.the-variants as reading
 use Rattle.writer.specs.Writings.{EntryFits}
-
-never : {A : Type 0} → _≡_ {A = ℕ} 0 1 → A
-never e = absurd (omega arith)
 
 -- ---- the bodies
 

@@ -6,14 +6,15 @@ ghost use Prim.Native.Nat.{ℕ, _+_, _≤_, _<_, _^_};
 ghost use lib.ListN.{length};
 ghost use Rattle.words.specs.Numbers.{bytesOf};
 ghost use Rattle.words.specs.Splices.{splice};
-ghost use Rattle.key.specs.Keys.{keyBytes, dataBytes};
-ghost use Rattle.value.specs.Values.{sideBytes, valueBytes, wellSide, wellValue};
+ghost use Rattle.key.specs.Keys.{keyBytes, dataBytes, KeyFits};
+ghost use Rattle.value.specs.Values.{sideBytes, valueBytes, wellSide, wellValue, DigestFits, SideFits, ValueFits};
 ghost use Rattle.entry.specs.Entries.{entryTag, entryBody, entryBytes, wellEntry};
-ghost use Rattle.writer.specs.Writings.{writing, writeEntry};
+ghost use Rattle.writer.specs.Writings.{writing, writeEntry, EntryFits};
 use entry::Entry;
 use key::Key;
 use message::Epoch;
 use message::Time;
+use value::Digest;
 use value::Side;
 use value::Value;
 use value::write_value;
@@ -245,5 +246,78 @@ pub fn write(e: Entry, out: &mut [u8]) -> Written
     Written {
         verdict: MALFORMED,
         used: 0,
+    }
+}
+
+// ---- every number fits its field. Nothing runs here: each contract says of any key, value or entry of the code what the laws of the
+// round trip ask of one (specs/Writings.antt)
+
+fn key_fits(k: Key)
+    ensures { λ _. ⌜ KeyFits k ⌝ }
+{}
+
+fn digest_fits(d: Digest)
+    ensures { λ _. ⌜ DigestFits d ⌝ }
+{}
+
+fn side_fits(x: Side)
+    ensures { λ _. ⌜ SideFits x ⌝ }
+{
+    match x {
+        Side::Empty => {}
+        Side::Link { key, digest, .. } => {
+            key_fits(key);
+            digest_fits(digest);
+        }
+    }
+}
+
+fn value_fits(x: Value)
+    ensures { λ _. ⌜ ValueFits x ⌝ }
+{
+    match x {
+        Value::None => {}
+        Value::Fingerprint(d) => digest_fits(d),
+        Value::Node(n) => {
+            let l = n.left;
+            let r = n.right;
+            side_fits(l);
+            side_fits(r);
+        }
+    }
+}
+
+pub fn entry_fits(e: Entry)
+    ensures { λ _. ⌜ EntryFits e ⌝ }
+{
+    match e {
+        Entry::AddTree { s, p, key, value } => {
+            key_fits(key);
+            value_fits(value);
+        }
+        Entry::AddDeferred {
+            s,
+            epoch,
+            time,
+            key,
+            value,
+        } => {
+            key_fits(key);
+            value_fits(value);
+        }
+        Entry::EvictTree { s, p } => {}
+        Entry::EvictDeferred { s } => {}
+        Entry::EvictTreeDeferred { s, p } => {}
+        Entry::Get { s, key, value } => {
+            key_fits(key);
+            value_fits(value);
+        }
+        Entry::Absent { p, key } => key_fits(key),
+        Entry::Put { s, key, value } => {
+            key_fits(key);
+            value_fits(value);
+        }
+        Entry::Advance => {}
+        Entry::Close => {}
     }
 }

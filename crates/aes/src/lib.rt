@@ -432,26 +432,13 @@ fn next_word(t: &[u32; 256], b: &[u8; EXPANDED_BYTES], j: usize) -> u32
     }
 }
 
-// The key's own bytes, with room for the rest. Inner.
-fn started(key: &[u8]) -> [u8; EXPANDED_BYTES]
-    requires { ⌜ length (now key) ≡ 16 ⌝ }
-    ensures { λ r. ⌜ take 16 r ≡ now (key .entry) ⌝ }
-{
-    let mut b = [0u8; EXPANDED_BYTES];
-    let mut i: usize = 0;
-    while i < KEY_BYTES {
-        b[i] = key[i];
-        i += 1;
-    }
-    b
-}
-
 // The expansion of a key.
 pub fn expand(key: &[u8; KEY_BYTES]) -> Expanded
     ensures { λ r. ⌜ r .bytes ≡ expansion (now (key .entry)) ⌝ }
 {
     let t = lay_table();
-    let mut b = started(key);
+    let mut b = [0u8; EXPANDED_BYTES];
+    words::put_bytes(&mut b, 0, key);
     let mut j: usize = 0;
     while j < NEW_WORDS {
         let w = next_word(&t, &b, j);

@@ -1,15 +1,15 @@
 -- Sums of tags: xor of numbers, and so of tags, is an abelian group in which each element is its own inverse; and the test
 -- of two tags decides whether they are equal. Assumes nothing.
 use mathlib.Core.Path.{_≡_, refl, sym, _∙_, ap, ap₂}
-use mathlib.Core.Bool.{Bool, true, false}
+use mathlib.Core.Bool.{true}
 use mathlib.Core.Logic.{_⊎_, inl, inr}
 use Prim.Native.Nat.{ℕ, zero, suc, _≤_, _/_, _%_}
 use native.Mathlib.Decide.{ℕ-discrete}
 use native.Mathlib.Omega.{arith}
 use borrow.Author.Tests.{eq-eqb, eqb-true}
+use lib.Bits.{bitXor, xor-zero-l, xor-self, xor-comm, xor-shr, xor-mod}
 use lib.Dec.{eqb}
-use lib.Bits.{bitXor, xor-zero-l, xor-zero-r, xor-self, xor-comm, xor-shr, xor-mod}
-use Rattle.words.specs.Choice.{both}
+use Rattle.words.proofs.Laws.{both-true, true-both}
 use Rattle.cmac.specs.Tags.{noTag, tagXor, tagEq}
 use Rattle.cmac.specs.declared.Tag.{Tag}
 
@@ -78,14 +78,10 @@ tag-self a = ap₂ tag (xor-self (a .t0)) (xor-self (a .t1))
 
 -- ---- the test of two tags
 
-both-true : (x y : Bool) → both x y ≡ true → (x ≡ true) × (y ≡ true)
-both-true true y e = (refl, e)
-both-true false y e = (e, cc)
-
 pub tag-eq : (a b : Tag) → tagEq a b ≡ true → a ≡ b
 tag-eq a b e =
     let p = both-true (eqb (a .t0) (b .t0)) (eqb (a .t1) (b .t1)) e in
     ap₂ tag (eqb-true (a .t0) (b .t0) (p .0)) (eqb-true (a .t1) (b .t1) (p .1))
 
 pub eq-tag : (a b : Tag) → a ≡ b → tagEq a b ≡ true
-eq-tag a b e = ap₂ both (eq-eqb (a .t0) (b .t0) (ap (λ (x : Tag). x .t0) e)) (eq-eqb (a .t1) (b .t1) (ap (λ (x : Tag). x .t1) e))
+eq-tag a b e = true-both (eqb (a .t0) (b .t0)) (eqb (a .t1) (b .t1)) (eq-eqb (a .t0) (b .t0) (ap (λ (x : Tag). x .t0) e)) (eq-eqb (a .t1) (b .t1) (ap (λ (x : Tag). x .t1) e))

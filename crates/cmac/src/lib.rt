@@ -8,7 +8,7 @@ ghost use Rattle.cmac.specs.Cmac.{zeroBlock, xorBlock, double, key1, key
 ghost use Rattle.cmac.specs.Tags.{tagWords, tagXor, tagEq, tagWith, tagOf};
 
 // The longest message of a tag call (document 01).
-pub const MESSAGE_LIMIT: usize = 65536;
+pub const LONGEST: usize = 65536;
 
 // A tag, or a sum of tags: sixteen bytes as two words, high byte first.
 pub struct Tag {
@@ -106,12 +106,8 @@ fn filled(l: &[u8]) -> [u8; 16]
     ensures { λ r. ⌜ r ≡ padding (now (l .entry)) ⌝ }
 {
     let mut b = [0u8; 16];
-    let mut i: usize = 0;
-    while i < l.len() {
-        b[i] = l[i];
-        i += 1;
-    }
-    b[i] = 0x80;
+    let end = words::put_bytes(&mut b, 0, l);
+    b[end] = 0x80;
     b
 }
 
@@ -189,7 +185,7 @@ fn mac_bytes(key: aes::Expanded, m: &[u8]) -> [u8; 16]
 pub fn tag_with(key: aes::Expanded, m: &[u8]) -> TagAnswer
     ensures { λ r. ⌜ r ≡ tagWith (key .bytes) (now (m .entry)) ⌝ }
 {
-    if MESSAGE_LIMIT < m.len() {
+    if LONGEST < m.len() {
         return TagAnswer {
             verdict: verdict::TOO_LONG,
             bytes: [0u8; 16],

@@ -1,8 +1,9 @@
 -- Laws of the field, of words of four bytes, of the table, of rounds and of the key schedule. Assumes nothing.
-use mathlib.Core.Path.{_≡_, refl, ap, ap₂, sym, _∙_}
+use mathlib.Core.Path.{_≡_, refl, ap, ap₂, sym, _∙_, subst}
 use mathlib.Core.Bool.{Bool}
 use mathlib.Core.List.{List, [], _∷_, _++_}
 use Prim.Native.Nat.{ℕ, zero, suc, _+_, _-_, _*_, _/_, _%_, _^_, _≤_, _<_, zero-le}
+use native.Mathlib.Decide.{ℕ-discrete}
 use native.Mathlib.Nat.{mod-lt, pow-suc, mul-comm}
 use native.Mathlib.Numerals.{add-one}
 use native.Mathlib.Omega.{arith}
@@ -10,8 +11,8 @@ use borrow.Author.Tests.{eq-eqb, ne-eqb}
 use lib.Arith.{lt-of-le-ne, digits-lt}
 use lib.Bits.{bitXor, bitOr, xor-lt, xor-block, or-shifted-r}
 use lib.Dec.{lit<}
-use lib.ListN.{length, getD, take, set, length-append, List·getD-map}
-use lib.Seq.{take-suc-set, getD-take}
+use lib.ListN.{length, getD, take, set, length-append, List·getD-map, List·getD-append}
+use lib.Seq.{take-suc-set, getD-take, getD-at}
 use Rattle.words.proofs.Laws.{bytes-length, take-splice}
 use Rattle.words.specs.Choice.{pick}
 use Rattle.words.specs.Numbers.{numberAt, bytesOf}
@@ -26,6 +27,16 @@ pub values-length : (f : ℕ → ℕ) (n : ℕ) → length (valuesOf f n) ≡ n
 unfolding valuesOf
 values-length f zero = refl
 values-length f (suc n) = length-append (valuesOf f n) (f n ∷ []) ∙ ap (λ (k : ℕ). k + 1) (values-length f n) ∙ add-one n
+
+pub values-at : (f : ℕ → ℕ) (n i : ℕ) → i < n → getD (valuesOf f n) i 0 ≡ f i
+unfolding valuesOf
+values-at f zero i h = absurd (omega arith)
+values-at f (suc n) i h =
+    elim (ℕ-discrete i n) [
+      | yes e ↦ ap (λ (k : ℕ). getD (valuesOf f n ++ f n ∷ []) k 0) e ∙ getD-at (valuesOf f n) (f n) [] 0 n (values-length f n) ∙ ap f (sym e)
+      | no d ↦
+          List·getD-append (valuesOf f n) (f n ∷ []) 0 i (subst (λ (k : ℕ). i < k) (sym (values-length f n)) (lt-of-le-ne (omega arith) d)) ∙ values-at f n i (lt-of-le-ne (omega arith) d)
+    ]
 
 one-lt : (x m i : ℕ) → x < m → getD (x ∷ []) i 0 < m
 one-lt x m zero h = h
@@ -51,6 +62,11 @@ affine-bits-lt b (suc n) = rw (pow-suc, mul-comm (2 ^ n) 2) (digits-lt {m = 2} (
 affine-lt : (b : ℕ) → affine b < 256
 unfolding affine
 affine-lt b = affine-bits-lt b 8
+
+-- the substitution of a byte is the affine rule after the inverse
+pub sub-rule : (b : ℕ) → b < 256 → sub b ≡ affine (inverse b)
+unfolding sub sbox
+sub-rule b h = values-at (λ x. affine (inverse x)) 256 b h
 
 pub sub-lt : (b : ℕ) → sub b < 256
 unfolding sub sbox

@@ -1,7 +1,7 @@
 /* Time of one AES block and of CMAC tags: the proved library, plain C (aes.c, gcc -O3) and OpenSSL, in one run.
    A figure is the least of several turns; a ratio is the library's time over the other's. Build and run:
      gcc -O3 -c aes.c && gcc -O2 bench_aes.c aes.o libthiraduan.a -lcrypto -o bench_aes
-     OPENSSL_ia32cap='~0x200020000000000' ./bench_aes       (AES-NI and PCLMULQDQ off)
+     OPENSSL_ia32cap=0 ./bench_aes       (no AES-NI, no vector units)
    Give "ni" as an argument where AES-NI is left on, so that the heading says so. */
 #define OPENSSL_SUPPRESS_DEPRECATED
 #include "aes.h"
@@ -112,7 +112,7 @@ int main(int count, char **words_given)
             return 1;
         }
     }
-    printf("AES-128 and CMAC, time of a call; OpenSSL %s\n", count > 1 ? "as it comes" : "with AES-NI off, if OPENSSL_ia32cap says so");
+    printf("AES-128 and CMAC, time of a call; OpenSSL %s\n", count > 1 ? "as it comes" : "without AES-NI, where OPENSSL_ia32cap says so");
     compare("one block, expanded key", own_block, plain_block, openssl_block, 16, 200000);
     compare("tag of 187 bytes, expanded key", own_tag_with, plain_tag_with, openssl_tag_with, 187, 20000);
     compare("tag of 187 bytes, set key", own_tag, plain_tag, openssl_tag, 187, 20000);

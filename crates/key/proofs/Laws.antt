@@ -1,7 +1,7 @@
 -- Laws of keys: the tests on words, and the round trip through bytes. Assumes nothing.
-use Prim.Native.Nat.{ℕ, zero, suc, _+_, _*_, _-_, _/_, _%_, _^_, _≤_, _<_}
+use Prim.Native.Nat.{ℕ, _+_, _*_, _%_, _^_, _≤_, _<_}
 use mathlib.Core.Path.{_≡_, refl, ap, sym, _∙_}
-use mathlib.Core.List.{List, [], _∷_, _++_, append-assoc}
+use mathlib.Core.List.{List, [], _++_, append-assoc}
 use mathlib.Core.Bool.{Bool, true, false}
 use native.Mathlib.Nat.{div-eq-of-lt, div-one, mod-one, mod-eq-of-lt, sub-eq-zero-of-le, one-mul, add-assoc}
 use native.Mathlib.Omega.{arith}

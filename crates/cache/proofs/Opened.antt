@@ -10,7 +10,7 @@ use lib.ListN.{length, take, drop, length-append}
 use lib.Seq.{take-at, drop-append-add}
 use Rattle.words.specs.Numbers.{zeros}
 use Rattle.words.specs.Splices.{splice}
-use Rattle.words.proofs.Laws.{zeros-length}
+use Rattle.words.proofs.Laws.{zeros-length, never}
 use Rattle.key.specs.Keys.{wellKey, clean, rootKey}
 use Rattle.key.specs.declared.Key.{Key}
 use Rattle.value.specs.Values.{fits, bareNode, wellSide, wellValue}
@@ -69,9 +69,6 @@ opened-free n i h =
     ∙ zero-slot
 
 -- ---- it is well formed
-
-never : {A : Type 0} → _≡_ {A = ℕ} 0 1 → A
-never e = absurd (omega arith)
 
 module _ (n : ℕ) where
   -- the root's is its only record

@@ -1,5 +1,5 @@
 // The state as 129 bytes of a fixed layout, for callers outside.
-// Promises upward: bytes that are no state are told from those that are, and a state that is written is read back.
+// Promises upward: bytes that are no state are told from those that are, and a state is written in one way.
 ghost use mathlib.Core.Path.{_≡_};
 ghost use Prim.Native.Nat.{ℕ, _+_, _≤_};
 ghost use lib.ListN.{length, drop};

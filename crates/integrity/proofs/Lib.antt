@@ -7,3 +7,5 @@ pub mod Skeleton
 pub mod OneKey
 pub mod Tree
 pub mod Moves
+pub mod History
+pub mod Lane

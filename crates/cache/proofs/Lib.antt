@@ -1,0 +1,2 @@
+-- Laws of the cache.
+pub mod Laws

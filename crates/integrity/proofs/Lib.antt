@@ -9,3 +9,8 @@ pub mod Tree
 pub mod Moves
 pub mod History
 pub mod Lane
+pub mod Slots
+pub mod Caches
+pub mod Tallies
+pub mod Written
+pub mod Refines

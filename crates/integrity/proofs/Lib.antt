@@ -14,3 +14,7 @@ pub mod Caches
 pub mod Tallies
 pub mod Written
 pub mod Refines
+pub mod RefineAdds
+pub mod RefineEvicts
+pub mod RefineAnswers
+pub mod RefineEpochs

@@ -5,7 +5,7 @@ use mathlib.Core.Logic.{_⊎_, inl, inr, _≢_}
 use mathlib.Core.Bool.{Bool, true, false}
 use mathlib.Core.Option.{Option}
 use mathlib.Core.List.{List, [], _∷_, _++_, List·Memᴰ, List·Memᴰ·cases-cons}
-use Prim.Native.Nat.{ℕ, zero, suc, _+_, _≤_, _<_}
+use Prim.Native.Nat.{ℕ, zero, suc, _+_, _-_, _≤_, _<_}
 use native.Mathlib.Decide.{decLe}
 use native.Mathlib.Omega.{arith}
 use lib.ListN.{length}
@@ -209,9 +209,9 @@ module _ (H : Value → Digest) (isData : Key → Bool) (G : Type 0) (X : Xor G)
     ]
 
   -- demand 3 over accepted steps: the epochs up to e are settled
-  pub lane-demand : isData rootKey ≡ false → {u : Lane} (r : Run u) (e : ℕ) → suc e ≤ u .epoch → (u .old ≡ true → suc (suc e) ≤ u .epoch)
+  pub lane-demand : isData rootKey ≡ false → {u : Lane} (r : Run u) (e : ℕ) → e ≤ u .epoch - 1 → (u .old ≡ true → e ≤ u .epoch - 2)
       → Collision H isData (Stood r) ⊎ (((i : ℕ) × (1 ≤ i) × (i ≤ e) × Cancels G X τ i (u .ads) (u .evs)) ⊎ AllSay e r)
-  lane-demand root-node {u} r e a b = elim (settle G X τ _ _ _ _ _ (hist r) e a b) [
+  lane-demand root-node {u} r e a b = elim (settle G X τ _ _ _ _ _ (hist r) e (omega (arith, hist r .from-one)) (λ o. let z = b o in let y = hist r .old-two o in omega arith)) [
     | inl x ↦ inr (inl x)
     | inr f ↦ elim (through root-node u e f (hist r .once) r (later-refl u)) [ inl c ↦ inl c | inr y ↦ inr (inr (y .0)) ]
   ]

@@ -18,3 +18,6 @@ pub mod RefineAdds
 pub mod RefineEvicts
 pub mod RefineAnswers
 pub mod RefineEpochs
+pub mod Refused
+pub mod Stood
+pub mod Opened

@@ -77,7 +77,7 @@ module _ (b : List ℕ) (e : length b ≡ 192) where
       let t : length (take 192 c) ≡ 192 = length-take-le 192 c k in
       let f : suc i * 192 ≡ 192 + i * 192 = omega arith in
       let s : splice c (suc i * 192) b ≡ take 192 c ++ splice (drop 192 c) (i * 192) b
-          = ap (λ (m : ℕ). splice c m b) f ∙ ap (λ (l : List ℕ). splice l (192 + i * 192) b) (sym (take-append-drop 192 c)) ∙ splice-front (take 192 c) (drop 192 c) b 192 (i * 192) t in
+      = ap (λ (m : ℕ). splice c m b) f ∙ ap (λ (l : List ℕ). splice l (192 + i * 192) b) (sym (take-append-drop 192 c)) ∙ splice-front (take 192 c) (drop 192 c) b 192 (i * 192) t in
       let r = slots-set n (drop 192 c) i (omega arith) (omega (arith, length-drop 192 c)) in
       rw (s, take-at (take 192 c) (splice (drop 192 c) (i * 192) b) 192 t, drop-at (take 192 c) (splice (drop 192 c) (i * 192) b) 192 t, r)
 

@@ -21,3 +21,5 @@ pub mod RefineEpochs
 pub mod Refused
 pub mod Stood
 pub mod Opened
+pub mod Replay
+pub mod Demand3

@@ -86,13 +86,13 @@ module _ (key : SetKey) (st : State) (c : List ℕ) (t : Lane) (R : Stands key s
         let d = toward pk k in
         let y = node (withSide n d (link k (digestOf w) false)) in
         let hy : Kept o pk y = record {
-              low = hold .low;
-              high = hold .high;
-              key = hold .key;
-              value = with-good n d (link k (digestOf w) false) (hold .value) (good-link k (digestOf w) false wk long);
-              key-fits = hold .key-fits;
-              value-fits = with-fits n d (link k (digestOf w) false) (hold .value-fits) (kf, digest-of-fits w);
-            } in
+          low = hold .low;
+          high = hold .high;
+          key = hold .key;
+          value = with-good n d (link k (digestOf w) false) (hold .value) (good-link k (digestOf w) false wk long);
+          key-fits = hold .key-fits;
+          value-fits = with-fits n d (link k (digestOf w) false) (hold .value-fits) (kf, digest-of-fits w);
+        } in
         let z = wrote-two c p o pk y s hp hs hy tree k w (record { low = omega arith; high = omega arith; key = wk; value = ww; key-fits = kf; value-fits = wf }) in
         rw e (record {
           set-key = R .set-key;

@@ -101,13 +101,13 @@ module _ (key : SetKey) (st : State) (c : List ℕ) (t : Lane) (R : Stands key s
         let y = node (withSide n u (link k d m)) in
         let h = below-length lies in
         let hy : Kept po pk y = record {
-              low = under .low;
-              high = under .high;
-              key = under .key;
-              value = with-good n u (link k d m) (under .value) (good-link k d m (left .key) (omega arith));
-              key-fits = under .key-fits;
-              value-fits = with-fits n u (link k d m) (under .value-fits) (left .key-fits, fd);
-            } in
+          low = under .low;
+          high = under .high;
+          key = under .key;
+          value = with-good n u (link k d m) (under .value) (good-link k d m (left .key) (omega arith));
+          key-fits = under .key-fits;
+          value-fits = with-fits n u (link k d m) (under .value-fits) (left .key-fits, fd);
+        } in
         let z = wrote-free c p po pk y s hp hs hy in
         record {
           set-key = q;
@@ -132,8 +132,8 @@ module _ (key : SetKey) (st : State) (c : List ℕ) (t : Lane) (R : Stands key s
     unfolding leaves evictMessage
     to-deferred ld lm fd l e = yep key st c t R st′ c′ (eqb o tree) wrongOrigin _ refl e λ f e. nope key st c t R st′ c′ (leb countLimit (st .tally .evicts)) countFull _ refl e λ g e.
         let a : Takes key t =
-              move (moves.evict-tree-deferred pk (toward pk k) (record { origin = po; value = node n }) (record { origin = o; value = x }) ld lm (leaves k x) at-p at-k l refl)
-              (evicting (leaves k x) (epoch-is k x) (time-is k x)) in
+        move (moves.evict-tree-deferred pk (toward pk k) (record { origin = po; value = node n }) (record { origin = o; value = x }) ld lm (leaves k x) at-p at-k l refl)
+        (evicting (leaves k x) (epoch-is k x) (time-is k x)) in
         done key st c t R st′ c′ (EvictTreeDeferred s p) _ _ a e (gone ld true fd (evicted st k x) (set-is k x) a refl (tallied k x))
         (λ f u. tt) (λ f. refl) (counts-it s o k x fs) refl (λ v y. absurd y)
 

@@ -20,13 +20,14 @@ use Rattle.state.specs.declared.Old as old
 use Rattle.state.specs.declared.Old.the-variants.{Closed, Open}
 use Rattle.state.specs.declared.State.{State}
 use Rattle.rules.specs.Steps.{step}
-use Rattle.integrity.specs.Statement.{Moment, fresh, after, run, taken, onEntry, lastPut, Agrees, AnswersAgree, stood, Collision, adds, evicts, TagsCancel, AllBytes, Demand3}
+use Rattle.integrity.specs.Statement.{Moment, fresh, run, taken, AnswersAgree, stood, Collision, TagsCancel, AllClosed, AllBytes, Holds, Demand3, SettledDemand3}
 use Rattle.integrity.proofs.Moves as moves
 use Rattle.integrity.proofs.History.{Cancels}
 use Rattle.integrity.proofs.Lane.{start, AllSay, lane-demand, opened-lane}
 use Rattle.integrity.proofs.Lane as lane
 use Rattle.integrity.proofs.Tallies.{tags, sum-is, OldIs, no-old, is-old}
 use Rattle.integrity.proofs.Opened.{opened-stands}
+use Rattle.integrity.proofs.Settled.{settled-is, closed-settled}
 use Rattle.integrity.proofs.Refused.{step-short}
 use Rattle.integrity.proofs.Replay.{first-stood, AgreeAll, each-agrees, Replayed, Replay, held-stood, replay}
 use Rattle.integrity.proofs.Stood.{Sound, same-sha}
@@ -71,30 +72,14 @@ module _ (key : List ℕ) (n : ℕ) (ws : List (List ℕ)) where
   agrees : (p : Whole) (e : ℕ) → AllSay digestOf isData Tag tags (tagOf (setKey key)) e (p .whole) → AnswersAgree e begin ws
   agrees p e a before w rest q h = each-agrees e begin (λ k. None) before w rest (subst (λ l. AgreeAll e begin (λ k. None) l) q (p .agree e a .0)) h
 
-  -- the last epoch settled, of the lane that the state stands for
-  open-old : (e : ℕ) (st : State) (o : old.Old) → st .old ≡ o → e ≤ settled st → e ≤ settledOf (st .epoch .0) o
-  unfolding settled
-  open-old e st o q h = rw q at h
-
-  demand : AllBytes ws → (e : ℕ) → e ≤ settled (run begin ws .state) → Collision begin ws ⊎ (TagsCancel (setKey key) e begin ws ⊎ AnswersAgree e begin ws)
+  demand : AllBytes ws → (e : ℕ) → e ≤ settled (run begin ws .state) → Holds (setKey key) e begin ws
   demand b e h = go (replay (setKey key) ws b (freshState key) (openedCache n) (opened-stands key n) start)
     where
-      go : Whole → Collision begin ws ⊎ (TagsCancel (setKey key) e begin ws ⊎ AnswersAgree e begin ws)
-      go p = elim (lane-demand digestOf isData Tag tags (tagOf (setKey key)) refl (p .whole) e (past (p .stands .tallies .olds)) (older (p .stands .tallies .olds))) [
+      go : Whole → Holds (setKey key) e begin ws
+      go p = elim (lane-demand digestOf isData Tag tags (tagOf (setKey key)) refl (p .whole) e (subst (λ y. e ≤ y) (settled-is (setKey key) (p .stands)) h)) [
         | inl d ↦ inl (collision p d)
         | inr z ↦ elim z [ inl x ↦ inr (inl (cancel p e x)) | inr a ↦ inr (inr (agrees p e a)) ]
       ]
-        where
-          end : State
-          end = run begin ws .state
-
-          past : OldIs (setKey key) (run begin ws .state .old) (p .end .old) (p .end .epoch) (p .end .evs) (p .end .ads) → e ≤ p .end .epoch - 1
-          past (no-old a c) = let z = open-old e (run begin ws .state) Closed a h in let y = p .stands .tallies .epochs in omega arith
-          past (is-old T i a c q d) = let z = open-old e (run begin ws .state) (Open T) a h in let y = p .stands .tallies .epochs in omega arith
-
-          older : OldIs (setKey key) (run begin ws .state .old) (p .end .old) (p .end .epoch) (p .end .evs) (p .end .ads) → p .end .old ≡ true → e ≤ p .end .epoch - 2
-          older (no-old a c) o = absurd (false≢true (sym c ∙ o))
-          older (is-old T i a c q d) o = let z = open-old e (run begin ws .state) (Open T) a h in let y = p .stands .tallies .epochs in omega arith
 
 -- ---- a cache that opening refuses: nothing is ever accepted (28)
 
@@ -111,15 +96,26 @@ module _ (m : Moment) (e : wellLength (m .cache) ≡ false) where
 
 -- ---- the theorem
 
-pub demand-3 : (key c : List ℕ) (ws : List (List ℕ)) (e : ℕ) → Demand3 key c ws e
-demand-3 key c ws e b h = go (wellLength c) refl
+opens : (key c : List ℕ) → wellLength c ≡ true → fresh key c ≡ record { state = freshState key; cache = openedCache (length c / 192 - 1) }
+unfolding openDef
+opens key c w = rw w
+
+refuses : (key c : List ℕ) → wellLength c ≡ false → fresh key c ≡ record { state = zeroState; cache = c }
+unfolding openDef
+refuses key c w = rw w
+
+-- whatever is known of the first moment, it is known of a fresh state and an opened cache, or nothing is ever accepted
+from-fresh : (key c : List ℕ) (ws : List (List ℕ)) (e : ℕ) (K : Moment → Type 0) → K (fresh key c)
+    → ((n : ℕ) → K (record { state = freshState key; cache = openedCache n }) → Holds (setKey key) e (record { state = freshState key; cache = openedCache n }) ws)
+    → Holds (setKey key) e (fresh key c) ws
+from-fresh key c ws e K k f = go (wellLength c) refl
   where
-    opens : wellLength c ≡ true → fresh key c ≡ record { state = freshState key; cache = openedCache (length c / 192 - 1) }
-    opens w = unfold openDef in rw w
+    go : (z : Bool) → wellLength c ≡ z → Holds (setKey key) e (fresh key c) ws
+    go true w = rw (opens key c w) (f (length c / 192 - 1) (subst K (opens key c w) k))
+    go false w = rw (refuses key c w) (inr (inr (silent (record { state = zeroState; cache = c }) w e ws)))
 
-    refuses : wellLength c ≡ false → fresh key c ≡ record { state = zeroState; cache = c }
-    refuses w = unfold openDef in rw w
+pub settled-demand-3 : (key c : List ℕ) (ws : List (List ℕ)) (e : ℕ) → SettledDemand3 key c ws e
+settled-demand-3 key c ws e b h = from-fresh key c ws e (λ m. e ≤ settled (run m ws .state)) h (λ n k. demand key n ws b e k)
 
-    go : (z : Bool) → wellLength c ≡ z → Collision (fresh key c) ws ⊎ (TagsCancel (setKey key) e (fresh key c) ws ⊎ AnswersAgree e (fresh key c) ws)
-    go true w = rw (opens w) (demand key (length c / 192 - 1) ws b e (rw (opens w) at h))
-    go false w = rw (refuses w) (inr (inr (silent (record { state = zeroState; cache = c }) w e ws)))
+pub demand-3 : (key c : List ℕ) (ws : List (List ℕ)) (e : ℕ) → Demand3 key c ws e
+demand-3 key c ws e b h = from-fresh key c ws e (λ m. AllClosed e m ws) h (λ n k. demand key n ws b e (closed-settled key n ws b e k))

@@ -2,7 +2,7 @@
 -- on epochs and times (18, 19, 22 to 24); of a run of them, deferred adds of settled epochs are outstanding when added, so that part 3 applies.
 use mathlib.Core.Path.{_≡_, refl, sym, _∙_, ap, subst}
 use mathlib.Core.Logic.{_⊎_, inl, inr, _≢_}
-use mathlib.Core.Bool.{Bool, true, false}
+use mathlib.Core.Bool.{Bool, true, false, true≢false}
 use mathlib.Core.Option.{Option}
 use mathlib.Core.List.{List, [], _∷_, _++_, List·Memᴰ, List·Memᴰ·cases-cons}
 use Prim.Native.Nat.{ℕ, zero, suc, _+_, _-_, _≤_, _<_}
@@ -40,6 +40,14 @@ pub data Timely (t : Lane) : List Message → List Message → Type 0 where
   quiet : Timely t [] []
   adding : (m : Message) → EpochOpen t (m .epoch .0) → m .time .0 ≤ t .clock → Timely t (m ∷ []) []
   evicting : (m : Message) → m .epoch .0 ≡ t .epoch → m .time .0 ≡ suc (t .clock) → Timely t [] (m ∷ [])
+
+-- the last epoch settled: current less 1, or less 2 with an old epoch open
+abbrev pub settled-by : ℕ → Bool → ℕ
+settled-by e false = e - 1
+settled-by e true = e - 2
+
+abbrev pub lane-settled : Lane → ℕ
+lane-settled t = settled-by (t .epoch) (t .old)
 
 -- a lane that was once as t, and is now as u: its adds are still there, and what was evicted by a time of t was evicted then
 record Later (t u : Lane) : Type 0 where
@@ -208,10 +216,31 @@ module _ (H : Value → Digest) (isData : Key → Bool) (G : Type 0) (X : Xor G)
       ]
     ]
 
+  -- ---- the last epoch settled never falls
+
+  pub settled-mono : {t : Lane} (a : Accepts t) → lane-settled t ≤ lane-settled (next a)
+  settled-mono (move a q) = omega arith
+  settled-mono {t} (advance o) = on (t .epoch) (t .old) o
+    where
+      on : (e : ℕ) (b : Bool) → b ≡ false → settled-by e b ≤ suc e - 2
+      on e b q = rw q (omega arith)
+  settled-mono {t} (close i o q l s) = on (t .epoch) (t .old) o
+    where
+      on : (e : ℕ) (b : Bool) → b ≡ true → settled-by e b ≤ e - 1
+      on e b q = rw q (omega arith)
+
   -- demand 3 over accepted steps: the epochs up to e are settled
-  pub lane-demand : isData rootKey ≡ false → {u : Lane} (r : Run u) (e : ℕ) → e ≤ u .epoch - 1 → (u .old ≡ true → e ≤ u .epoch - 2)
+  pub lane-demand : isData rootKey ≡ false → {u : Lane} (r : Run u) (e : ℕ) → e ≤ lane-settled u
       → Collision H isData (Stood r) ⊎ (((i : ℕ) × (1 ≤ i) × (i ≤ e) × Cancels G X τ i (u .ads) (u .evs)) ⊎ AllSay e r)
-  lane-demand root-node {u} r e a b = elim (settle G X τ _ _ _ _ _ (hist r) e (omega (arith, hist r .from-one)) (λ o. let z = b o in let y = hist r .old-two o in omega arith)) [
+  lane-demand root-node {u} r e h = elim (settle G X τ _ _ _ _ _ (hist r) e (past (u .old) refl h) (older (u .old) refl h)) [
     | inl x ↦ inr (inl x)
     | inr f ↦ elim (through root-node u e f (hist r .once) r (later-refl u)) [ inl c ↦ inl c | inr y ↦ inr (inr (y .0)) ]
   ]
+    where
+      past : (o : Bool) → u .old ≡ o → e ≤ settled-by (u .epoch) o → suc e ≤ u .epoch
+      past false q g = omega (arith, hist r .from-one)
+      past true q g = omega (arith, hist r .old-two q)
+
+      older : (o : Bool) → u .old ≡ o → e ≤ settled-by (u .epoch) o → u .old ≡ true → suc (suc e) ≤ u .epoch
+      older false q g t = absurd (true≢false (sym t ∙ q))
+      older true q g t = omega (arith, hist r .old-two q)

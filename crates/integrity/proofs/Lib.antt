@@ -22,4 +22,5 @@ pub mod Refused
 pub mod Stood
 pub mod Opened
 pub mod Replay
+pub mod Settled
 pub mod Demand3

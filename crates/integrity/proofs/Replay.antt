@@ -32,7 +32,7 @@ use Rattle.integrity.specs.Statement.{Moment, stepAt, after, run, entryI
 use Rattle.integrity.proofs.Ancestors.{Key}
 use Rattle.integrity.proofs.Records.{Value, Cell, Message}
 use Rattle.integrity.proofs.Moves.{Cached}
-use Rattle.integrity.proofs.Lane.{Lane, Run, snoc, last-put, AllSay, Stood}
+use Rattle.integrity.proofs.Lane.{Lane, lane-settled, Run, snoc, settled-mono, last-put, AllSay, Stood}
 use Rattle.integrity.proofs.Tallies.{tags}
 use Rattle.integrity.proofs.Refines.{onward, Stands, Refined}
 use Rattle.integrity.proofs.RefineAdds.{refine-add-tree, refine-add-deferred}
@@ -51,7 +51,7 @@ data-well k e =
     rw (le-leb (k .len) 256 (omega arith), clean-all (k .len) (k .w0) (omega arith), clean-all (k .len - 64) (k .w1) (omega arith), clean-all (k .len - 128) (k .w2) (omega arith), clean-all (k .len - 192) (k .w3) (omega arith))
 
 -- every accepted entry that was read from bytes
-refine : (key : SetKey) (st : State) (c : List ℕ) (t : Lane) → Stands key st c t → (st′ : State) (c′ : List ℕ) (x : Entry) → wellEntry x ≡ true → EntryFits x
+pub refine : (key : SetKey) (st : State) (c : List ℕ) (t : Lane) → Stands key st c t → (st′ : State) (c′ : List ℕ) (x : Entry) → wellEntry x ≡ true → EntryFits x
     → entryStep x st c ≡ accepts st′ c′ → Refined key x st c st′ c′ t
 unfolding entryStep wellEntry
 refine key st c t R st′ c′ (AddTree s p k x) w f e = let b = both-true (wellKey k) (wellValue x) w in refine-add-tree key st c t R st′ c′ s p k x (b .0) (b .1) (f .1 .1 .0) (f .1 .1 .1) e
@@ -95,6 +95,7 @@ module _ (key : SetKey) where
     pub end : Lane
     pub whole : Runs end
     pub stands : Stands key (m .state) (m .cache) end
+    pub settles : lane-settled t ≤ lane-settled end
     pub agree : (e : ℕ) → AllSay digestOf isData Tag tags (tagOf key) e whole → A e × AllSay digestOf isData Tag tags (tagOf key) e r
     pub evs : end .evs ≡ E
     pub ads : end .ads ≡ D
@@ -122,6 +123,7 @@ module _ (key : SetKey) where
       end = p .end;
       whole = p .whole;
       stands = p .stands;
+      settles = p .settles;
       agree = λ e a. let b = p .agree e a in (((λ h. tt), b .0), b .1);
       evs = p .evs;
       ads = p .ads;
@@ -136,6 +138,7 @@ module _ (key : SetKey) where
       end = p .end;
       whole = p .whole;
       stands = p .stands;
+      settles = let h = settled-mono digestOf isData Tag tags (tagOf key) (g .acc) in let j = p .settles in omega arith;
       agree = λ e a. let b = p .agree e a in
           (((λ h. g .says _ (b .1 .0 (subst (λ y. y ≤ e) (R .tallies .epochs) h))), subst (λ f. AgreeAll e (record { state = σ; cache = d }) f ws) (g .putting _) (b .0)), b .1 .1);
       evs = p .evs ∙ ap (evicts (record { state = σ; cache = d }) ws) (g .evicting);
@@ -162,6 +165,7 @@ module _ (key : SetKey) where
     end = t;
     whole = r;
     stands = R;
+    settles = omega arith;
     agree = λ e a. (tt, a);
     evs = refl;
     ads = refl;

@@ -6,7 +6,7 @@
 --   the same SHA-256 digest, or for one of the epochs 1 to e the messages that were counted an odd number of times, its adds and evicts taken
 --   together, are not none and their tags xor to zero.
 --
--- The last definition, Demand3, is the demand; proofs/Demand3 proves it. The step is that of demand 2 (crate rules), on bytes.
+-- Demand3, near the end, is the demand; proofs/Demand3 proves it. The step is that of demand 2 (crate rules), on bytes.
 use Prim.Native.Nat.{ℕ, zero, suc, _≤_}
 use mathlib.Core.Path.{_≡_}
 use mathlib.Core.Logic.{_⊎_, _≢_}
@@ -219,6 +219,20 @@ pub record TagsCancel (set : SetKey) (e : ℕ) (m : Moment) (ws : List (List ℕ
   pub some-odd : oddMessages epoch m ws ≢ []
   pub cancel : xorTags set (oddMessages epoch m ws) ≡ noTag
 
+-- ---- "If epochs 1 to e have all been closed"
+
+-- an accepted close closes the old epoch, which is the current one less 1
+pub record Closed (i : ℕ) (m : Moment) (ws : List (List ℕ)) : Type 0 where
+  pub before : List (List ℕ)
+  pub input : List ℕ
+  pub rest : List (List ℕ)
+  pub inputs : ws ≡ before ++ (input ∷ rest)
+  pub close : taken (run m before) input ≡ some Close
+  pub current : run m before .state .epoch .0 ≡ suc i
+
+abbrev pub AllClosed : ℕ → Moment → List (List ℕ) → Type 0
+AllClosed e m ws = (i : ℕ) → 1 ≤ i → i ≤ e → Closed i m ws
+
 -- ---- the demand
 
 -- every input is bytes
@@ -226,9 +240,14 @@ abbrev pub AllBytes : List (List ℕ) → Type 0
 AllBytes [] = Unit
 AllBytes (w ∷ ws) = Bytes w × AllBytes ws
 
--- of a set key's bytes, a lent cache of any length, the inputs and the epoch e. "Epochs 1 to e have all been closed": e is not above the last
--- epoch settled, as document 01 reads it from the state
+-- the exception, or what is demanded of the answers
+abbrev pub Holds : SetKey → ℕ → Moment → List (List ℕ) → Type 0
+Holds set e m ws = Collision m ws ⊎ (TagsCancel set e m ws ⊎ AnswersAgree e m ws)
+
+-- of a set key's bytes, a lent cache of any length, the inputs and the epoch e
 abbrev pub Demand3 : List ℕ → List ℕ → List (List ℕ) → ℕ → Type 0
-Demand3 key c ws e =
-    AllBytes ws → e ≤ settled (run (fresh key c) ws .state)
-    → Collision (fresh key c) ws ⊎ (TagsCancel (setKey key) e (fresh key c) ws ⊎ AnswersAgree e (fresh key c) ws)
+Demand3 key c ws e = AllBytes ws → AllClosed e (fresh key c) ws → Holds (setKey key) e (fresh key c) ws
+
+-- the same where e is not above the last epoch settled, as document 01 reads it from the state
+abbrev pub SettledDemand3 : List ℕ → List ℕ → List (List ℕ) → ℕ → Type 0
+SettledDemand3 key c ws e = AllBytes ws → e ≤ settled (run (fresh key c) ws .state) → Holds (setKey key) e (fresh key c) ws

@@ -24,3 +24,5 @@ pub mod Opened
 pub mod Replay
 pub mod Settled
 pub mod Demand3
+pub mod Traps
+pub mod AnswerEpoch

@@ -7,6 +7,7 @@ use mathlib.Core.Option.{some}
 use mathlib.Core.List.{List, [], _∷_, _++_}
 use lib.Dec.{eqb}
 use Rattle.words.specs.Numbers.{numberAt, bytesOf, zeros}
+use Rattle.verdict.specs.Verdicts.{accepted}
 use Rattle.words.specs.Splices.{splice}
 use Rattle.cmac.specs.Tags.{noTag, tagXor, tagEq}
 use Rattle.cmac.specs.declared.Tag.{Tag}
@@ -23,7 +24,7 @@ use Rattle.entry.specs.declared.Entry.the-variants.{AddTree, AddDeferred, Evict
 use Rattle.hash.specs.Hashes.{setKey, tagOf}
 use Rattle.slot.specs.Slots.{slotBytes, allZero, slotAt}
 use Rattle.cache.specs.Caches.{wellLength, heldIn, held, wellRecord, wellAt, wellFrom, wellCache, openedCache}
-use Rattle.state.specs.States.{wellState, addedCurrent, addedOld, evictedState, evictMessage, evicted, advancedState, closedState, freshState}
+use Rattle.state.specs.States.{wellState, addedCurrent, addedOld, evictedState, evictMessage, evicted, advancedState, closedState, freshState, openDef}
 use Rattle.state.specs.declared.Old.the-variants.{Open}
 use Rattle.state.specs.declared.State.{State}
 use Rattle.rules.specs.Outcomes.{gives}
@@ -32,9 +33,9 @@ use Rattle.rules.specs.Evicts.{unlinked, evictLink, evictNode, evictUnder, evic
 use Rattle.rules.specs.Answers.{get, absent, put}
 use Rattle.rules.specs.Epochs.{advance, close}
 use Rattle.rules.specs.Steps.{entryStep, stepWell, step}
-use Rattle.rules.proofs.Marked.{End, run, fresh}
 use Rattle.integrity.specs.Same.{message-dec, number-dec, key-dec, value-dec}
 use Rattle.integrity.specs.Counting.{odds, toggle}
+use Rattle.integrity.specs.Statement.{Moment, fresh, stepAt, after, run, taken, lastPut, ofEpoch, oddMessages}
 
 -- the data key of 256 zeros, and a fingerprint
 abbrev Z : Key
@@ -47,33 +48,47 @@ F = v.Fingerprint (record { d0 = 7; d1 = 0; d2 = 0; d3 = 0 })
 abbrev defer : ℕ → ℕ → Entry
 defer e t = AddDeferred 1 (record { 0 = e }) (record { 0 = t }) Z v.None
 
+-- its message
 abbrev message : ℕ → Message
 message t = addMessage (record { 0 = 1 }) (record { 0 = t }) Z v.None
 
+-- four slots, opened
+abbrev begin : Moment
+begin = fresh (zeros 16) (zeros 768)
+
+-- the entries as inputs, and the verdicts that they get
+abbrev written : List Entry → List (List ℕ)
+written [] = []
+written (x ∷ xs) = entryBytes x ∷ written xs
+
+abbrev verdicts : Moment → List (List ℕ) → List ℕ
+verdicts m [] = []
+verdicts m (w ∷ ws) = stepAt m w .result .verdict ∷ verdicts (after m w) ws
+
 -- ---- xor alone: a is added three times, evicted on as b, c, d, and those moved to the next epoch
 
-abbrev three-times : List Entry
+abbrev three-times : List (List ℕ)
 three-times =
-    AddTree 1 0 Z v.None ∷ EvictTreeDeferred 1 0 ∷
+    written (AddTree 1 0 Z v.None ∷ EvictTreeDeferred 1 0 ∷
     defer 1 1 ∷ EvictDeferred 1 ∷ defer 1 1 ∷ EvictDeferred 1 ∷ defer 1 1 ∷ EvictDeferred 1 ∷
-    Advance ∷ defer 1 2 ∷ EvictDeferred 1 ∷ defer 1 3 ∷ EvictDeferred 1 ∷ defer 1 4 ∷ EvictDeferred 1 ∷ Close ∷ []
+    Advance ∷ defer 1 2 ∷ EvictDeferred 1 ∷ defer 1 3 ∷ EvictDeferred 1 ∷ defer 1 4 ∷ EvictDeferred 1 ∷ Close ∷ [])
 
 abbrev tag : ℕ → Tag
 tag t = tagOf (setKey (zeros 16)) (message t)
 
 -- every entry is accepted but the close, which the counts refuse
-pub three-verdicts : run three-times fresh .verdicts ≡ 0 ∷ 0 ∷ 0 ∷ 0 ∷ 0 ∷ 0 ∷ 0 ∷ 0 ∷ 0 ∷ 0 ∷ 0 ∷ 0 ∷ 0 ∷ 0 ∷ 0 ∷ 23 ∷ []
-unfolding run fresh numberAt bytesOf zeros splice clean wellKey keyBytes rawKey keyAt dataAt dataBytes keyEq sameTop above bitAt toward digestAt digestBytes digestEq linkBytes sideBytes fingerprintBytes nodeBytes valueBytes linkAt sideAt nodeAt fingerprintAt valueAt fits isFirst valueEq addTreeAt addDeferredAt pairOfSlots evictDeferredAt recordAt absentAt emptyAt entryOf headOf readEntry entryTag entryBody entryBytes setKey slotBytes allZero slotAt wellLength heldIn held wellRecord wellAt wellFrom wellCache openedCache wellState addedCurrent addedOld evictedState evictMessage evicted advancedState closedState freshState linked addLink addNode addUnder addTree namedEpoch addInto addDeferred unlinked evictLink evictNode evictUnder evictBy evictDeferred get absent put advance close entryStep stepWell step
+pub three-verdicts : verdicts begin three-times ≡ 0 ∷ 0 ∷ 0 ∷ 0 ∷ 0 ∷ 0 ∷ 0 ∷ 0 ∷ 0 ∷ 0 ∷ 0 ∷ 0 ∷ 0 ∷ 0 ∷ 0 ∷ 23 ∷ []
+unfolding openDef numberAt bytesOf zeros splice clean wellKey keyBytes rawKey keyAt dataAt dataBytes keyEq sameTop above bitAt toward digestAt digestBytes digestEq linkBytes sideBytes fingerprintBytes nodeBytes valueBytes linkAt sideAt nodeAt fingerprintAt valueAt fits isFirst valueEq addTreeAt addDeferredAt pairOfSlots evictDeferredAt recordAt absentAt emptyAt entryOf headOf readEntry entryTag entryBody entryBytes setKey slotBytes allZero slotAt wellLength heldIn held wellRecord wellAt wellFrom wellCache openedCache wellState addedCurrent addedOld evictedState evictMessage evicted advancedState closedState freshState linked addLink addNode addUnder addTree namedEpoch addInto addDeferred unlinked evictLink evictNode evictUnder evictBy evictDeferred get absent put advance close entryStep stepWell step
 three-verdicts = refl
 
 -- six adds and four evicts
-pub three-tally : run three-times fresh .state .old ≡ Open (record {
+pub three-tally : run begin three-times .state .old ≡ Open (record {
   adds = 6;
   evicts = 4;
   addsum = tagXor (tagXor (tagXor (tagXor (tagXor (tagXor noTag (tag 1)) (tag 1)) (tag 1)) (tag 2)) (tag 3)) (tag 4);
   evictsum = tagXor (tagXor (tagXor (tagXor noTag (tag 1)) (tag 2)) (tag 3)) (tag 4);
 })
-unfolding run fresh numberAt bytesOf zeros splice clean wellKey keyBytes rawKey keyAt dataAt dataBytes keyEq sameTop above bitAt toward digestAt digestBytes digestEq linkBytes sideBytes fingerprintBytes nodeBytes valueBytes linkAt sideAt nodeAt fingerprintAt valueAt fits isFirst valueEq addTreeAt addDeferredAt pairOfSlots evictDeferredAt recordAt absentAt emptyAt entryOf headOf readEntry entryTag entryBody entryBytes setKey slotBytes allZero slotAt wellLength heldIn held wellRecord wellAt wellFrom wellCache openedCache wellState addedCurrent addedOld evictedState evictMessage evicted advancedState closedState freshState linked addLink addNode addUnder addTree namedEpoch addInto addDeferred unlinked evictLink evictNode evictUnder evictBy evictDeferred get absent put advance close entryStep stepWell step
+unfolding openDef numberAt bytesOf zeros splice clean wellKey keyBytes rawKey keyAt dataAt dataBytes keyEq sameTop above bitAt toward digestAt digestBytes digestEq linkBytes sideBytes fingerprintBytes nodeBytes valueBytes linkAt sideAt nodeAt fingerprintAt valueAt fits isFirst valueEq addTreeAt addDeferredAt pairOfSlots evictDeferredAt recordAt absentAt emptyAt entryOf headOf readEntry entryTag entryBody entryBytes setKey slotBytes allZero slotAt wellLength heldIn held wellRecord wellAt wellFrom wellCache openedCache wellState addedCurrent addedOld evictedState evictMessage evicted advancedState closedState freshState linked addLink addNode addUnder addTree namedEpoch addInto addDeferred unlinked evictLink evictNode evictUnder evictBy evictDeferred get absent put advance close entryStep stepWell step
 three-tally = refl
 
 twice : (x a : Tag) → tagXor (tagXor x a) a ≡ x
@@ -84,32 +99,34 @@ pub three-sums : (a b c d : Tag)
     → tagEq (tagXor (tagXor (tagXor (tagXor (tagXor (tagXor noTag a) a) a) b) c) d) (tagXor (tagXor (tagXor (tagXor noTag a) b) c) d) ≡ true
 three-sums a b c d = eq-tag _ _ (ap (λ g. tagXor (tagXor (tagXor g b) c) d) (twice (tagXor noTag a) a))
 
--- nothing is counted an odd number of times, so that the exception of demand 3 does not excuse it
-pub three-odds : odds Message message-dec
-    (message 4 ∷ message 3 ∷ message 2 ∷ message 1 ∷ message 1 ∷ message 1 ∷ message 4 ∷ message 3 ∷ message 2 ∷ message 1 ∷ []) ≡ []
-unfolding odds toggle message-dec number-dec key-dec value-dec keyEq valueEq
+-- nothing is counted an odd number of times, so that the exception of demand 3 would not excuse it
+pub three-odds : oddMessages 1 begin three-times ≡ []
+unfolding openDef ofEpoch odds toggle message-dec number-dec key-dec value-dec numberAt bytesOf zeros splice clean wellKey keyBytes rawKey keyAt dataAt dataBytes keyEq sameTop above bitAt toward digestAt digestBytes digestEq linkBytes sideBytes fingerprintBytes nodeBytes valueBytes linkAt sideAt nodeAt fingerprintAt valueAt fits isFirst valueEq addTreeAt addDeferredAt pairOfSlots evictDeferredAt recordAt absentAt emptyAt entryOf headOf readEntry entryTag entryBody entryBytes setKey slotBytes allZero slotAt wellLength heldIn held wellRecord wellAt wellFrom wellCache openedCache wellState addedCurrent addedOld evictedState evictMessage evicted advancedState closedState freshState linked addLink addNode addUnder addTree namedEpoch addInto addDeferred unlinked evictLink evictNode evictUnder evictBy evictDeferred get absent put advance close entryStep stepWell step
 three-odds = refl
 
--- ---- a get is settled with the epoch current at the get, not with its record's: in epoch 2 a message that was never evicted is added (epoch 2 can
--- not close), the put goes into that record, and then the message of epoch 1 is added as it ought to be. The get shows none after a put of F,
--- from a record of epoch 1, and epoch 1 closes
+-- ---- a get is settled with the epoch current at the get, not with its record's: in epoch 2 a message that was never evicted is added (so epoch 2
+-- will not close), the put goes into that record, and then the message of epoch 1 is added as it ought to be. From that record of epoch 1 a get
+-- shows none, after a put of F; and epoch 1 closes
 
-abbrev other-record : List Entry
-other-record =
-    AddTree 1 0 Z v.None ∷ EvictTreeDeferred 1 0 ∷ Advance ∷ defer 2 1 ∷ Put 1 Z F ∷ EvictDeferred 1 ∷ defer 1 1 ∷ Get 1 Z v.None ∷ []
+abbrev other-record : List (List ℕ)
+other-record = written (AddTree 1 0 Z v.None ∷ EvictTreeDeferred 1 0 ∷ Advance ∷ defer 2 1 ∷ Put 1 Z F ∷ EvictDeferred 1 ∷ defer 1 1 ∷ [])
 
-pub other-verdicts : run other-record fresh .verdicts ≡ 0 ∷ 0 ∷ 0 ∷ 0 ∷ 0 ∷ 0 ∷ 0 ∷ 0 ∷ []
-unfolding run fresh numberAt bytesOf zeros splice clean wellKey keyBytes rawKey keyAt dataAt dataBytes keyEq sameTop above bitAt toward digestAt digestBytes digestEq linkBytes sideBytes fingerprintBytes nodeBytes valueBytes linkAt sideAt nodeAt fingerprintAt valueAt fits isFirst valueEq addTreeAt addDeferredAt pairOfSlots evictDeferredAt recordAt absentAt emptyAt entryOf headOf readEntry entryTag entryBody entryBytes setKey slotBytes allZero slotAt wellLength heldIn held wellRecord wellAt wellFrom wellCache openedCache wellState addedCurrent addedOld evictedState evictMessage evicted advancedState closedState freshState linked addLink addNode addUnder addTree namedEpoch addInto addDeferred unlinked evictLink evictNode evictUnder evictBy evictDeferred get absent put advance close entryStep stepWell step
-other-verdicts = refl
+pub other-get : taken (run begin other-record) (entryBytes (Get 1 Z v.None)) ≡ some (Get 1 Z v.None)
+unfolding openDef numberAt bytesOf zeros splice clean wellKey keyBytes rawKey keyAt dataAt dataBytes keyEq sameTop above bitAt toward digestAt digestBytes digestEq linkBytes sideBytes fingerprintBytes nodeBytes valueBytes linkAt sideAt nodeAt fingerprintAt valueAt fits isFirst valueEq addTreeAt addDeferredAt pairOfSlots evictDeferredAt recordAt absentAt emptyAt entryOf headOf readEntry entryTag entryBody entryBytes setKey slotBytes allZero slotAt wellLength heldIn held wellRecord wellAt wellFrom wellCache openedCache wellState addedCurrent addedOld evictedState evictMessage evicted advancedState closedState freshState linked addLink addNode addUnder addTree namedEpoch addInto addDeferred unlinked evictLink evictNode evictUnder evictBy evictDeferred get absent put advance close entryStep stepWell step
+other-get = refl
 
-pub other-epoch : run other-record fresh .state .epoch .0 ≡ 2
-unfolding run fresh numberAt bytesOf zeros splice clean wellKey keyBytes rawKey keyAt dataAt dataBytes keyEq sameTop above bitAt toward digestAt digestBytes digestEq linkBytes sideBytes fingerprintBytes nodeBytes valueBytes linkAt sideAt nodeAt fingerprintAt valueAt fits isFirst valueEq addTreeAt addDeferredAt pairOfSlots evictDeferredAt recordAt absentAt emptyAt entryOf headOf readEntry entryTag entryBody entryBytes setKey slotBytes allZero slotAt wellLength heldIn held wellRecord wellAt wellFrom wellCache openedCache wellState addedCurrent addedOld evictedState evictMessage evicted advancedState closedState freshState linked addLink addNode addUnder addTree namedEpoch addInto addDeferred unlinked evictLink evictNode evictUnder evictBy evictDeferred get absent put advance close entryStep stepWell step
+pub other-put : lastPut begin other-record (λ k. v.None) Z ≡ F
+unfolding openDef numberAt bytesOf zeros splice clean wellKey keyBytes rawKey keyAt dataAt dataBytes keyEq sameTop above bitAt toward digestAt digestBytes digestEq linkBytes sideBytes fingerprintBytes nodeBytes valueBytes linkAt sideAt nodeAt fingerprintAt valueAt fits isFirst valueEq addTreeAt addDeferredAt pairOfSlots evictDeferredAt recordAt absentAt emptyAt entryOf headOf readEntry entryTag entryBody entryBytes setKey slotBytes allZero slotAt wellLength heldIn held wellRecord wellAt wellFrom wellCache openedCache wellState addedCurrent addedOld evictedState evictMessage evicted advancedState closedState freshState linked addLink addNode addUnder addTree namedEpoch addInto addDeferred unlinked evictLink evictNode evictUnder evictBy evictDeferred get absent put advance close entryStep stepWell step
+other-put = refl
+
+pub other-epoch : run begin other-record .state .epoch .0 ≡ 2
+unfolding openDef numberAt bytesOf zeros splice clean wellKey keyBytes rawKey keyAt dataAt dataBytes keyEq sameTop above bitAt toward digestAt digestBytes digestEq linkBytes sideBytes fingerprintBytes nodeBytes valueBytes linkAt sideAt nodeAt fingerprintAt valueAt fits isFirst valueEq addTreeAt addDeferredAt pairOfSlots evictDeferredAt recordAt absentAt emptyAt entryOf headOf readEntry entryTag entryBody entryBytes setKey slotBytes allZero slotAt wellLength heldIn held wellRecord wellAt wellFrom wellCache openedCache wellState addedCurrent addedOld evictedState evictMessage evicted advancedState closedState freshState linked addLink addNode addUnder addTree namedEpoch addInto addDeferred unlinked evictLink evictNode evictUnder evictBy evictDeferred get absent put advance close entryStep stepWell step
 other-epoch = refl
 
-other-tally : run other-record fresh .state .old ≡ Open (record { adds = 1; evicts = 1; addsum = tagXor noTag (tag 1); evictsum = tagXor noTag (tag 1) })
-unfolding run fresh numberAt bytesOf zeros splice clean wellKey keyBytes rawKey keyAt dataAt dataBytes keyEq sameTop above bitAt toward digestAt digestBytes digestEq linkBytes sideBytes fingerprintBytes nodeBytes valueBytes linkAt sideAt nodeAt fingerprintAt valueAt fits isFirst valueEq addTreeAt addDeferredAt pairOfSlots evictDeferredAt recordAt absentAt emptyAt entryOf headOf readEntry entryTag entryBody entryBytes setKey slotBytes allZero slotAt wellLength heldIn held wellRecord wellAt wellFrom wellCache openedCache wellState addedCurrent addedOld evictedState evictMessage evicted advancedState closedState freshState linked addLink addNode addUnder addTree namedEpoch addInto addDeferred unlinked evictLink evictNode evictUnder evictBy evictDeferred get absent put advance close entryStep stepWell step
+other-tally : run begin other-record .state .old ≡ Open (record { adds = 1; evicts = 1; addsum = tagXor noTag (tag 1); evictsum = tagXor noTag (tag 1) })
+unfolding openDef numberAt bytesOf zeros splice clean wellKey keyBytes rawKey keyAt dataAt dataBytes keyEq sameTop above bitAt toward digestAt digestBytes digestEq linkBytes sideBytes fingerprintBytes nodeBytes valueBytes linkAt sideAt nodeAt fingerprintAt valueAt fits isFirst valueEq addTreeAt addDeferredAt pairOfSlots evictDeferredAt recordAt absentAt emptyAt entryOf headOf readEntry entryTag entryBody entryBytes setKey slotBytes allZero slotAt wellLength heldIn held wellRecord wellAt wellFrom wellCache openedCache wellState addedCurrent addedOld evictedState evictMessage evicted advancedState closedState freshState linked addLink addNode addUnder addTree namedEpoch addInto addDeferred unlinked evictLink evictNode evictUnder evictBy evictDeferred get absent put advance close entryStep stepWell step
 other-tally = refl
 
-pub other-closes : close (run other-record fresh .state) ≡ gives 0 (closedState (run other-record fresh .state))
+pub other-closes : close (run begin other-record .state) ≡ gives accepted (closedState (run begin other-record .state))
 unfolding close
 other-closes = rw (other-tally, eq-tag (tagXor noTag (tag 1)) (tagXor noTag (tag 1)) refl)

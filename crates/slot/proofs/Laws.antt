@@ -1,0 +1,80 @@
+-- Laws of a slot as it is written: zeros, the tail's test, and its length. Assumes nothing.
+use Prim.Native.Nat.{ℕ, zero, suc, _+_, _*_, _-_, _≤_, _<_}
+use mathlib.Core.Path.{_≡_, refl, ap, sym, _∙_}
+use mathlib.Core.List.{List, [], _∷_, _++_}
+use mathlib.Core.Bool.{Bool, false}
+use native.Mathlib.Omega.{arith}
+use native.Mathlib.Numerals.{add-one}
+use native.Mathlib.Nat.{add-suc, add-zero, suc-sub-suc, sub-zero, zero-sub, zero-add}
+use lib.Dec.{eqb}
+use lib.ListN.{length, getD, drop, replicate, length-append}
+use lib.Seq.{drop-cons}
+use borrow.Author.Tests.{eq-eqb, ne-eqb}
+use Rattle.words.specs.Choice.{both}
+use Rattle.words.specs.Numbers.{numberAt, zeros}
+use Rattle.words.specs.Splices.{splice}
+use Rattle.words.proofs.Laws.{zeros-length}
+use Rattle.key.specs.Keys.{keyBytes}
+use Rattle.key.specs.declared.Key.{Key}
+use Rattle.key.proofs.Laws.{key-length}
+use Rattle.value.specs.declared.Value.{Value}
+use Rattle.value.specs.Values.{valueBytes}
+use Rattle.value.proofs.Laws.{value-length}
+use Rattle.slot.specs.Slots.{slotLength, allZero, filled, slotBytes}
+
+-- ---- the test of zeros
+
+module _ (s : List ℕ) (i : ℕ) (h : i < length s) where
+  pub zero-more : getD s i 0 ≡ 0 → allZero (drop (i + 1) s) ≡ allZero (drop i s)
+  unfolding allZero
+  zero-more e = rw (add-one, drop-cons s i 0, eq-eqb _ _ e)
+
+  pub zero-stop : (getD s i 0 ≡ 0 → ⊥) → false ≡ allZero (drop i s)
+  unfolding allZero
+  zero-stop e = rw (drop-cons s i 0, ne-eqb _ _ e)
+
+-- n bytes are all zero where the number that they make is
+both-zero : (x y : ℕ) (b : Bool) → both (eqb (x * 256 + y) 0) b ≡ both (eqb x 0) (both (eqb y 0) b)
+both-zero zero zero b = refl
+both-zero zero (suc y) b = rw (zero-add (suc y))
+both-zero (suc x) y b = rw (ne-eqb (suc x * 256 + y) 0 (λ e. omega arith), ne-eqb (suc x) 0 (λ e. omega arith))
+
+zero-one : (s : List ℕ) (i : ℕ) → i < length s → allZero (drop i s) ≡ both (eqb (getD s i 0) 0) (allZero (drop (suc i) s))
+unfolding allZero
+zero-one s i h = rw (drop-cons s i 0)
+
+pub zero-number : (n : ℕ) (s : List ℕ) (i : ℕ) → i + n ≤ length s → allZero (drop i s) ≡ both (eqb (numberAt n s i) 0) (allZero (drop (i + n) s))
+unfolding numberAt
+zero-number zero s i h = rw add-zero
+zero-number (suc n) s i h =
+    zero-number n s i (omega arith) ∙ rw (both-zero (numberAt n s i) (getD s (i + n) 0), add-suc) (ap (both (eqb (numberAt n s i) 0)) (zero-one s (i + n) (omega arith)))
+
+-- a word that is zero, and one that is not
+module _ (n : ℕ) (s : List ℕ) (i : ℕ) (h : i + n ≤ length s) where
+  pub zero-on : numberAt n s i ≡ 0 → allZero (drop (i + n) s) ≡ allZero (drop i s)
+  zero-on e = sym (zero-number n s i h ∙ rw (eq-eqb _ _ e))
+
+  pub zero-off : (numberAt n s i ≡ 0 → ⊥) → false ≡ allZero (drop i s)
+  zero-off e = sym (zero-number n s i h ∙ rw (ne-eqb _ _ e))
+
+-- ---- what is written over zeros
+
+drop-replicate : (n m x : ℕ) → drop n (replicate m x) ≡ replicate (m - n) x
+drop-replicate zero m x = rw sub-zero
+drop-replicate (suc n) zero x = rw zero-sub
+drop-replicate (suc n) (suc m) x = rw suc-sub-suc (drop-replicate n m x)
+
+splice-zeros : (c : List ℕ) → splice (zeros slotLength) 0 c ≡ filled c
+unfolding splice zeros
+splice-zeros c = rw (zero-add, drop-replicate (length c) slotLength 0)
+
+pub over-zeros : (d r c : List ℕ) → d ≡ zeros slotLength → r ≡ splice d 0 c → r ≡ filled c
+over-zeros d r c p q = q ∙ ap (λ (l : List ℕ). splice l 0 c) p ∙ splice-zeros c
+
+filled-length : (c : List ℕ) → length c ≤ slotLength → length (filled c) ≡ slotLength
+filled-length c h = simp (length-append, zeros-length) (omega arith)
+
+pub slot-length : (o : ℕ) (k : Key) (v : Value) → length (slotBytes o k v) ≡ slotLength
+unfolding slotBytes
+slot-length o k v =
+    filled-length ((o ∷ []) ++ (keyBytes k ++ valueBytes v)) (simp (length-append, key-length) (omega (arith, value-length v)))

@@ -1,0 +1,3 @@
+-- Laws of slots.
+pub mod Laws
+pub mod Back

@@ -7,7 +7,7 @@ use native.Mathlib.Omega.{arith}
 use native.Mathlib.Numerals.{add-one}
 use native.Mathlib.Nat.{add-suc, add-zero, suc-sub-suc, sub-zero, zero-sub, zero-add}
 use lib.Dec.{eqb}
-use lib.ListN.{length, getD, drop, replicate, length-append}
+use lib.ListN.{length, getD, take, drop, length-append}
 use lib.Seq.{drop-cons}
 use borrow.Author.Tests.{eq-eqb, ne-eqb}
 use Rattle.words.specs.Choice.{both}
@@ -59,14 +59,21 @@ module _ (n : ℕ) (s : List ℕ) (i : ℕ) (h : i + n ≤ length s) where
 
 -- ---- what is written over zeros
 
-drop-replicate : (n m x : ℕ) → drop n (replicate m x) ≡ replicate (m - n) x
-drop-replicate zero m x = rw sub-zero
-drop-replicate (suc n) zero x = rw zero-sub
-drop-replicate (suc n) (suc m) x = rw suc-sub-suc (drop-replicate n m x)
+pub drop-zeros : (n m : ℕ) → drop n (zeros m) ≡ zeros (m - n)
+unfolding zeros
+drop-zeros zero m = rw sub-zero
+drop-zeros (suc n) zero = rw zero-sub
+drop-zeros (suc n) (suc m) = rw suc-sub-suc (drop-zeros n m)
+
+pub take-zeros : (n m : ℕ) → n ≤ m → take n (zeros m) ≡ zeros n
+unfolding zeros
+take-zeros zero m h = refl
+take-zeros (suc n) zero h = absurd (omega arith)
+take-zeros (suc n) (suc m) h = ap (λ (l : List ℕ). 0 ∷ l) (take-zeros n m (omega arith))
 
 splice-zeros : (c : List ℕ) → splice (zeros slotLength) 0 c ≡ filled c
-unfolding splice zeros
-splice-zeros c = rw (zero-add, drop-replicate (length c) slotLength 0)
+unfolding splice
+splice-zeros c = rw (zero-add, drop-zeros (length c) slotLength)
 
 pub over-zeros : (d r c : List ℕ) → d ≡ zeros slotLength → r ≡ splice d 0 c → r ≡ filled c
 over-zeros d r c p q = q ∙ ap (λ (l : List ℕ). splice l 0 c) p ∙ splice-zeros c

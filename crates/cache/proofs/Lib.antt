@@ -1,0 +1,6 @@
+-- Laws of the cache.
+pub mod Laws
+pub mod Slots
+pub mod Found
+pub mod Well
+pub mod Opened

@@ -1,0 +1,2 @@
+-- Laws of the digest, the set key and the tag.
+pub mod Laws

@@ -1,0 +1,2 @@
+-- Laws of the trusted state.
+pub mod Laws

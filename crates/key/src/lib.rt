@@ -1,7 +1,7 @@
 // Keys: strings of 0 to 256 bits, as 34 bytes and as words, with the tests that the entries make.
 // Promises upward: what is written is read back, every bit past the length is zero, `above` is proper prefix, `toward` the next bit.
 ghost use mathlib.Core.Path.{_≡_};
-ghost use Prim.Native.Nat.{ℕ, _+_, _-_, _%_, _^_, _≤_, _<_};
+ghost use Prim.Native.Nat.{_+_, _-_, _%_, _^_, _≤_, _<_};
 ghost use lib.ListN.{length};
 ghost use Rattle.words.specs.Splices.{splice};
 ghost use Rattle.key.specs.Keys.{keyAt, keyBytes, dataAt, dataBytes, keyEq, above, toward, bitAt, wellKey, rootKey, dataKey, isData, clean, sameTop};

@@ -1,6 +1,7 @@
 -- What it says that a state is well formed, which changes keep it so, and what opening comes to. Assumes nothing.
 use Prim.Native.Nat.{ℕ, _+_, _*_, _-_, _/_, _≤_, _<_}
-use mathlib.Core.Path.{_≡_, ap, sym, _∙_}
+use Rattle.verdict.specs.Verdicts.{accepted, wrongCache}
+use mathlib.Core.Path.{refl, _≡_, ap, sym, _∙_}
 use mathlib.Core.List.{List}
 use mathlib.Core.Bool.{Bool, true, false}
 use native.Mathlib.Omega.{arith}

@@ -2,7 +2,7 @@
 // Promises upward: what is written is read back whatever follows it, and what is read is written as the same bytes.
 ghost use mathlib.Core.Path.{_≡_};
 ghost use mathlib.Core.List.{_++_};
-ghost use Prim.Native.Nat.{ℕ, _+_, _≤_, _<_, _^_};
+ghost use Prim.Native.Nat.{_+_, _≤_, _<_, _^_};
 ghost use lib.ListN.{length};
 ghost use Rattle.words.specs.Numbers.{bytesOf};
 ghost use Rattle.words.specs.Splices.{splice};

@@ -1,3 +1,4 @@
 -- Laws of slots.
 pub mod Laws
 pub mod Back
+pub mod Examples

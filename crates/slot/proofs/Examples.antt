@@ -1,6 +1,6 @@
 -- Bytes that are no slot, and one that is, computed.
 use mathlib.Core.Path.{_≡_, refl}
-use mathlib.Core.List.{List, _∷_, _++_}
+use mathlib.Core.List.{_∷_, _++_}
 use Rattle.words.specs.Numbers.{numberAt, bytesOf, zeros}
 use Rattle.key.specs.Keys.{keyAt, rawKey, wellKey, clean, keyBytes, rootKey}
 use Rattle.value.specs.Values.{valueAt, nodeAt, sideAt, valueBytes, nodeBytes, sideBytes, bareNode}

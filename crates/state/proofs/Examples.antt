@@ -3,10 +3,9 @@ use Prim.Native.Nat.{ℕ}
 use mathlib.Core.Path.{_≡_, refl}
 use mathlib.Core.Bool.{true, false}
 use lib.ListN.{replicate}
-use Rattle.words.specs.Numbers.{numberAt, zeros}
-use Rattle.hash.specs.Hashes.{setKey}
+use Rattle.words.specs.Numbers.{zeros}
 use Rattle.cache.specs.Caches.{wellLength}
-use Rattle.state.specs.States.{wellState, noTally, freshState, advancedState, closedState, zeroState, openDef, settled}
+use Rattle.state.specs.States.{wellState, freshState, advancedState, closedState, zeroState, openDef, settled}
 use Rattle.state.specs.declared.Tally.{Tally}
 use Rattle.state.specs.declared.Old.{Old}
 use Rattle.state.specs.declared.Old.the-variants.{Closed, Open}

@@ -1,3 +1,3 @@
 -- Laws of the trusted state.
-pub mod Laws
 pub mod Examples
+pub mod Laws

@@ -1,13 +1,13 @@
--- The cache's bytes as slots.
+-- Refinement, the cache's bytes as slots: what writing a slot's 192 bytes makes of them, and what it means that a key is not held.
 use Prim.Native.Nat.{ℕ, zero, suc, _+_, _*_, _-_, _/_, _≤_, _<_}
 use mathlib.Core.Path.{_≡_, refl, ap, sym, _∙_, subst}
-use mathlib.Core.Logic.{_⊎_, inl, inr, _≢_}
+use mathlib.Core.Logic.{_≢_}
 use mathlib.Core.List.{List, [], _∷_, _++_, append-assoc}
-use mathlib.Core.Bool.{Bool, true, false, true≢false, false≢true}
+use mathlib.Core.Bool.{false, true≢false}
 use mathlib.Core.Option.{Option, none, some}
 use native.Mathlib.Omega.{arith}
-use native.Mathlib.Nat.{zero-mul, div-mul-le-self}
-use lib.ListN.{getD, set, length, length-append, length-take, length-drop, take, drop, take-append-drop}
+use native.Mathlib.Nat.{div-mul-le-self}
+use lib.ListN.{set, length, length-append, length-drop, take, drop, take-append-drop}
 use lib.Seq.{take-at, drop-at, take-append-add, drop-append-add, drop-drop, length-take-le}
 use Rattle.words.specs.Splices.{splice}
 use Rattle.words.specs.Numbers.{zeros}
@@ -15,16 +15,15 @@ use Rattle.key.specs.Keys.{keyEq}
 use Rattle.slot.specs.Slots as slot
 use Rattle.slot.specs.declared.Slot.{Slot}
 use Rattle.slot.specs.declared.Slot.the-variants as sl
-use Rattle.cache.specs.Caches.{slotIn, count, putSlot, freeSlot, slotHas, heldIn, held}
+use Rattle.cache.specs.Caches.{slotIn, count, putSlot, freeSlot, slotHas, heldIn}
 use Rattle.key.proofs.Laws.{keyEq-refl}
 use Rattle.value.specs.declared.Value.{Value}
 use Rattle.slot.specs.Slots.{slotBytes}
 use Rattle.slot.proofs.Laws.{slot-length}
 use Rattle.slot.proofs.Back.{Kept, zero-slot, slot-back}
 use Rattle.integrity.proofs.Ancestors.{Key}
-use Rattle.integrity.proofs.Updates.{Is, is, isnt, view, upd}
+use Rattle.integrity.proofs.Updates.{Is, is, isnt, view}
 use Rattle.integrity.proofs.Updates as views
-use Rattle.integrity.proofs.Records.{Cell}
 use Rattle.integrity.proofs.Slots.{Rec, Slots, slotAt, look}
 use Rattle.words.proofs.Laws.{picked, zeros-length}
 

@@ -1,14 +1,20 @@
--- The chain of theorems from the rules of a step to demand 3. Each file says which part it is.
+-- The chain of theorems from the rules of a step to demand 3. Each file says in its first lines which part it is.
+
+-- part 1, counting
 pub mod Counting
+-- keys, values, functions of keys
 pub mod Updates
 pub mod Ancestors
 pub mod Records
+-- part 3, the tree
 pub mod Skeleton
 pub mod OneKey
 pub mod Tree
 pub mod Moves
+-- part 2, order and bookkeeping
 pub mod History
 pub mod Lane
+-- refinement: from bytes to accepted steps
 pub mod Slots
 pub mod Caches
 pub mod Tallies
@@ -23,6 +29,7 @@ pub mod Stood
 pub mod Opened
 pub mod Replay
 pub mod Settled
+-- the theorem, and what shows that it says neither more nor less
 pub mod Demand3
 pub mod Traps
 pub mod AnswerEpoch

@@ -1,13 +1,12 @@
 -- Refinement, opening: a fresh state and an opened cache stand for the opened lane.
 use mathlib.Core.Path.{_≡_, refl, sym, _∙_, ap, subst}
-use mathlib.Core.Bool.{true}
-use mathlib.Core.Option.{Option, none, some}
-use mathlib.Core.List.{List, [], _∷_, _++_}
-use Prim.Native.Nat.{ℕ, zero, suc, _+_, _*_, _/_, _≤_, _<_}
+use mathlib.Core.Option.{none, some}
+use mathlib.Core.List.{List, _∷_, _++_}
+use Prim.Native.Nat.{ℕ, zero, suc, _+_, _*_, _/_, _<_}
 use native.Mathlib.Nat.{zero-add}
 use native.Mathlib.Omega.{arith}
 use lib.Dec.{lit<}
-use lib.ListN.{length, length-append, replicate, take, drop}
+use lib.ListN.{length, length-append, replicate}
 use lib.Seq.{take-at, drop-at}
 use Rattle.words.specs.Numbers.{zeros, Bytes}
 use Rattle.words.proofs.Laws.{append-bytes, zeros-length}
@@ -20,12 +19,11 @@ use Rattle.slot.proofs.Back.{Kept, zero-slot, slot-back}
 use Rattle.cache.specs.Caches.{count, openedCache}
 use Rattle.state.specs.States.{freshState}
 use Rattle.integrity.specs.Statement.{ofEpoch}
-use Rattle.integrity.proofs.Ancestors.{Key}
 use Rattle.integrity.proofs.Updates.{upd}
 use Rattle.integrity.proofs.Counting.{sum}
-use Rattle.integrity.proofs.Records.{bare, fromTree, Cell}
-use Rattle.integrity.proofs.Slots.{Rec, Slots, look, Unique}
-use Rattle.integrity.proofs.Caches.{recOf, slotsOf, slotsIn, recd}
+use Rattle.integrity.proofs.Records.{bare, fromTree}
+use Rattle.integrity.proofs.Slots.{look, Unique}
+use Rattle.integrity.proofs.Caches.{slotsOf, slotsIn, recd}
 use Rattle.integrity.proofs.Tallies.{tags, no-old}
 use Rattle.integrity.proofs.Written.{zero-bytes, slot-bytes}
 use Rattle.integrity.proofs.Lane.{opened-lane}

@@ -1,13 +1,13 @@
 -- Refinement of entries 1 (add from tree) and 2 (add deferred).
 use mathlib.Core.Path.{_≡_, refl, sym, _∙_, ap, subst}
 use mathlib.Core.Bool.{Bool, true, false, cond}
-use mathlib.Core.Option.{Option, none, some}
-use mathlib.Core.List.{List, [], _∷_, List·Memᴰ·head}
-use Prim.Native.Nat.{ℕ, zero, suc, _+_, _-_, _*_, _≤_, _<_}
+use mathlib.Core.Option.{none, some}
+use mathlib.Core.List.{List, _∷_, List·Memᴰ·head}
+use Prim.Native.Nat.{ℕ, suc, _-_, _*_, _≤_, _<_}
 use native.Mathlib.Omega.{arith}
 use lib.Dec.{eqb, leb}
 use borrow.Author.Tests.{eqb-true, leb-false, leb-true, ne-eqb}
-use Rattle.words.specs.Choice.{pick, both}
+use Rattle.words.specs.Choice.{pick}
 use Rattle.words.proofs.Laws.{picked, both-true}
 use Rattle.verdict.specs.Verdicts.{notWell, noSlot, slotTaken, slotEmpty, keyHeld, wrongKind, noAncestor, otherBranch, markedDeferred, digestDiffers, notFirst, epochNotOpen, timeOutOfRange, countFull}
 use Rattle.cmac.specs.declared.Tag.{Tag}
@@ -33,20 +33,18 @@ use Rattle.state.specs.declared.Tally.{Tally}
 use Rattle.state.specs.declared.Old as old
 use Rattle.state.specs.declared.Old.the-variants.{Closed, Open}
 use Rattle.state.specs.declared.State.{State}
-use Rattle.rules.specs.Outcomes.{Outcome, refuses, accepts}
+use Rattle.rules.specs.Outcomes.{refuses, accepts}
 use Rattle.rules.specs.Adds.{linked, between, addSide, addLink, addNode, addTo, addUnder, addAt, addTree, namedOld, namedEpoch, addMessage, inTime, addCounted, addNamed, addInto, deferAt, addDeferred}
-use Rattle.rules.specs.declared.Named.{Named}
 use Rattle.rules.specs.declared.Named.the-variants as named
-use Rattle.integrity.specs.Statement.{Moment}
 use Rattle.integrity.proofs.Ancestors.{Key, Below, below-length, well}
 use Rattle.integrity.proofs.Updates.{upd, upd2}
-use Rattle.integrity.proofs.Records.{Side, empty, link, Value, vnone, print, node, bare, Cell, Message, setSide}
+use Rattle.integrity.proofs.Records.{Side, empty, link, Value, vnone, print, node, bare, Message, setSide}
 use Rattle.integrity.proofs.Moves.{add-same, add-empty, add-split}
 use Rattle.integrity.proofs.Moves as moves
 use Rattle.integrity.proofs.Lane.{Lane, EpochOpen, current, older, quiet, adding, move}
 use Rattle.integrity.proofs.Slots.{Unique, look, unique-add}
 use Rattle.integrity.proofs.Caches.{slotsIn, wrote-one, wrote-two}
-use Rattle.integrity.proofs.Tallies.{tags, Tallies, OldIs, no-old, is-old, tallies-add-current, tallies-add-old}
+use Rattle.integrity.proofs.Tallies.{Tallies, OldIs, no-old, is-old, tallies-add-current, tallies-add-old}
 use Rattle.integrity.proofs.Written.{slot-bytes, splice-bytes, digest-of-fits}
 use Rattle.integrity.proofs.Refines.{first-is, side-good, side-fits, with-good, with-fits, link-good, good-link, bare-good, below-differ, cache-add, both-add, uniq-add, Takes, onward, Stands, Refined, stop, nope, yep, done, full, free, cached, in-list, kept, missing, absent-key}
 

@@ -1,15 +1,13 @@
 -- Refinement of entries 6 (get), 7 (absent) and 8 (put).
 use mathlib.Core.Path.{_≡_, refl, sym, _∙_, ap, subst}
-use mathlib.Core.Bool.{Bool, true, false, true≢false, false≢true}
-use mathlib.Core.Option.{Option, none, some, Option·none-ne-some, Option·some-injective}
-use mathlib.Core.List.{List, [], _∷_, List·Memᴰ·head}
-use Prim.Native.Nat.{ℕ, zero, suc, _+_, _*_, _≤_, _<_}
-use native.Mathlib.Omega.{arith}
+use mathlib.Core.Bool.{true, false, true≢false}
+use mathlib.Core.Option.{some, Option·none-ne-some, Option·some-injective}
+use mathlib.Core.List.{List, List·Memᴰ·head}
+use Prim.Native.Nat.{ℕ, _*_, _<_}
 use lib.Dec.{leb}
 use borrow.Author.Tests.{leb-false}
-use Rattle.words.specs.Choice.{pick}
 use Rattle.verdict.specs.Verdicts.{notWell, noSlot, slotEmpty, wrongKind, otherKey, noAncestor, valueDiffers, absenceNotShown}
-use Rattle.key.specs.Keys.{isData, wellKey, keyEq, above, toward, KeyFits}
+use Rattle.key.specs.Keys.{isData, wellKey, keyEq, above, toward}
 use Rattle.key.proofs.Laws.{keyEq-true, keyEq-refl}
 use Rattle.value.specs.Values as value
 use Rattle.value.specs.Values.{isNode, valueEq, wellValue, ValueFits}
@@ -21,20 +19,19 @@ use Rattle.hash.specs.declared.SetKey.{SetKey}
 use Rattle.slot.specs.Slots.{slotBytes}
 use Rattle.slot.specs.declared.Slot.{Slot}
 use Rattle.slot.specs.declared.Slot.the-variants as sl
-use Rattle.slot.proofs.Back.{Kept}
 use Rattle.cache.specs.Caches.{slotIn, count, putSlot}
 use Rattle.state.specs.declared.State.{State}
-use Rattle.rules.specs.Outcomes.{Outcome, refuses, accepts}
+use Rattle.rules.specs.Outcomes.{accepts}
 use Rattle.rules.specs.Answers as rules
 use Rattle.rules.specs.Answers.{getSlot, absentSide, absentNode, absentSlot, putInto}
 use Rattle.integrity.proofs.Ancestors.{Key, Pre, pre-same, pre-up, Below}
-use Rattle.integrity.proofs.Records.{Side, empty, link, Value, vnone, print, node, Cell, IsNode, keyOf}
+use Rattle.integrity.proofs.Records.{Side, empty, link, Value, vnone, print, node, IsNode, keyOf}
 use Rattle.integrity.proofs.Moves as moves
 use Rattle.integrity.proofs.Lane.{Lane, quiet, move}
 use Rattle.integrity.proofs.Slots.{Unique, look, unique-write}
-use Rattle.integrity.proofs.Caches.{slotsIn, recd, wrote-one}
+use Rattle.integrity.proofs.Caches.{slotsIn, wrote-one}
 use Rattle.integrity.proofs.Written.{slot-bytes, splice-bytes}
-use Rattle.integrity.proofs.Refines.{put-is, cache-write, Takes, onward, Stands, Refined, stop, nope, yep, done, full, cached, kept}
+use Rattle.integrity.proofs.Refines.{put-is, cache-write, Stands, Refined, stop, nope, yep, done, full, cached, kept}
 
 -- no node
 not-node : (x : Value) → isNode x ≡ false → IsNode x → ⊥

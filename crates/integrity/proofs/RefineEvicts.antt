@@ -1,15 +1,14 @@
 -- Refinement of entries 3 (evict to tree), 4 (evict deferred) and 5 (evict tree record deferred).
 use mathlib.Core.Path.{_≡_, refl, sym, _∙_, ap, subst}
 use mathlib.Core.Bool.{Bool, true, false}
-use mathlib.Core.Option.{Option, none, some}
-use mathlib.Core.List.{List, [], _∷_, _++_}
-use Prim.Native.Nat.{ℕ, zero, suc, _+_, _*_, _≤_, _<_}
+use mathlib.Core.Option.{none, some}
+use mathlib.Core.List.{List, _∷_, _++_}
+use Prim.Native.Nat.{ℕ, suc, _+_, _*_, _<_}
 use native.Mathlib.Numerals.{add-one}
 use native.Mathlib.Omega.{arith}
 use lib.Dec.{eqb, leb}
 use borrow.Author.Tests.{eqb-true, leb-false}
-use Rattle.words.specs.Choice.{pick}
-use Rattle.words.specs.Numbers.{zeros, Bytes}
+use Rattle.words.specs.Numbers.{zeros}
 use Rattle.verdict.specs.Verdicts.{notWell, noSlot, slotEmpty, wrongKind, noAncestor, noLink, wrongOrigin, rootSlot, countFull}
 use Rattle.key.specs.Keys.{keyEq, above, toward}
 use Rattle.key.proofs.Laws.{keyEq-true}
@@ -24,15 +23,15 @@ use Rattle.slot.specs.Slots.{slotBytes, tree, deferred}
 use Rattle.slot.specs.declared.Slot.{Slot}
 use Rattle.slot.specs.declared.Slot.the-variants as sl
 use Rattle.slot.proofs.Back.{Kept}
-use Rattle.cache.specs.Caches.{slotIn, count, putSlot, freeSlot}
+use Rattle.cache.specs.Caches.{slotIn, count, putSlot}
 use Rattle.state.specs.States.{countLimit, evictedState, evictMessage, evicted}
 use Rattle.state.specs.declared.State.{State}
-use Rattle.rules.specs.Outcomes.{Outcome, refuses, accepts}
+use Rattle.rules.specs.Outcomes.{accepts}
 use Rattle.rules.specs.Evicts.{unlinked, toTree, toDeferred, evictAs, evictSide, evictLink, evictNode, evictTo, evictUnder, evictAt, evictBy, deferredAt, evictDeferred}
-use Rattle.integrity.specs.Statement.{Moment, leaving}
+use Rattle.integrity.specs.Statement.{leaving}
 use Rattle.integrity.proofs.Ancestors.{Key, Below, below-length}
 use Rattle.integrity.proofs.Updates.{upd2}
-use Rattle.integrity.proofs.Records.{Digest, Side, empty, link, Value, vnone, print, node, Cell, Message, setSide}
+use Rattle.integrity.proofs.Records.{Digest, Side, empty, link, Value, vnone, print, node, Message, setSide}
 use Rattle.integrity.proofs.Moves as moves
 use Rattle.integrity.proofs.Lane.{Lane, quiet, evicting, move}
 use Rattle.integrity.proofs.Slots.{Unique, look, unique-clear}

@@ -1,10 +1,10 @@
 -- A refused entry leaves the state and every byte of the cache as they were: for each entry, and for a step on any bytes.
-use mathlib.Core.Path.{_≡_, refl, sym, _∙_, ap}
-use mathlib.Core.Bool.{Bool, true, false, true≢false, false≢true}
-use mathlib.Core.List.{List, [], _∷_}
-use Prim.Native.Nat.{ℕ, _+_, _-_}
+use mathlib.Core.Path.{_≡_, refl, ap}
+use mathlib.Core.Bool.{Bool, true, false}
+use mathlib.Core.List.{List}
+use Prim.Native.Nat.{ℕ, _-_}
 use lib.Dec.{eqb, leb}
-use Rattle.words.specs.Choice.{pick, both}
+use Rattle.words.specs.Choice.{pick}
 use Rattle.verdict.specs.Verdicts.{accepted, notWell, malformed, short, noSlot, slotTaken, slotEmpty, keyHeld, wrongKind, otherKey, noAncestor, noLink, otherBranch, markedDeferred, digestDiffers, notFirst, wrongOrigin, rootSlot, epochNotOpen, timeOutOfRange, countFull, epochFull, wrongMoment, countsDiffer, sumsDiffer, valueDiffers, absenceNotShown, wrongCache}
 use Rattle.cmac.specs.Tags.{tagEq}
 use Rattle.key.specs.Keys.{keyEq, above, toward}
@@ -32,8 +32,8 @@ use Rattle.state.specs.declared.Old as old
 use Rattle.state.specs.declared.Old.the-variants.{Closed, Open}
 use Rattle.state.specs.declared.State.{State}
 use Rattle.rules.specs.Outcomes.{Outcome, outcome, refuses, accepts}
-use Rattle.rules.specs.Adds.{addSide, addLink, addNode, addTo, addUnder, addAt, addTree, namedEpoch, inTime, addCounted, addNamed, addInto, deferAt, addDeferred}
-use Rattle.rules.specs.Evicts.{evictAs, evictSide, evictLink, evictNode, evictTo, evictUnder, evictAt, evictBy, deferredAt, evictDeferred}
+use Rattle.rules.specs.Adds.{addSide, addLink, addNode, addTo, addUnder, addAt, addTree, namedEpoch, inTime, addNamed, addInto, deferAt, addDeferred}
+use Rattle.rules.specs.Evicts.{evictSide, evictLink, evictNode, evictTo, evictUnder, evictAt, evictBy, deferredAt, evictDeferred}
 use Rattle.rules.specs.Answers as answers
 use Rattle.rules.specs.Answers.{getSlot, absentSide, absentNode, absentSlot, putInto}
 use Rattle.rules.specs.Epochs as epochs

@@ -1,36 +1,32 @@
 -- Refinement of a whole history: the inputs, stepped one after the other, are a run of the lane that says, puts, counts and shows the same. A
 -- refused input is no step of it.
-use mathlib.Core.Path.{_≡_, refl, sym, _∙_, ap, subst}
+use mathlib.Core.Path.{_≡_, refl, _∙_, ap, subst}
 use mathlib.Core.Logic.{_⊎_, inl, inr}
-use mathlib.Core.Bool.{Bool, true, false}
+use mathlib.Core.Bool.{true, false}
 use mathlib.Core.Option.{Option, none, some}
 use mathlib.Core.List.{List, [], _∷_, _++_, List·Memᴰ}
-use Prim.Native.Nat.{ℕ, zero, suc, _-_, _≤_, _<_}
+use Prim.Native.Nat.{ℕ, _-_, _≤_}
 use native.Mathlib.Omega.{arith}
-use lib.Dec.{eqb, leb}
 use borrow.Author.Tests.{eqb-true, le-leb}
-use Rattle.words.specs.Choice.{pick}
 use Rattle.words.proofs.Laws.{both-true}
-use Rattle.verdict.specs.Verdicts.{accepted}
 use Rattle.cmac.specs.declared.Tag.{Tag}
 use Rattle.key.specs.Keys.{isData, wellKey}
 use Rattle.key.proofs.Laws.{clean-all}
 use Rattle.value.specs.Values.{wellValue}
-use Rattle.entry.specs.Entries.{readEntry, wellEntry}
+use Rattle.entry.specs.Entries.{wellEntry}
 use Rattle.entry.specs.declared.Entry.{Entry}
 use Rattle.entry.specs.declared.Entry.the-variants.{AddTree, AddDeferred, EvictTree, EvictDeferred, EvictTreeDeferred, Get, Absent, Put, Advance, Close}
-use Rattle.entry.specs.declared.Reading.the-variants as reading
 use Rattle.writer.specs.Writings.{EntryFits}
 use Rattle.writer.proofs.Same.{entry-same}
 use Rattle.hash.specs.Hashes.{digestOf, tagOf}
 use Rattle.hash.specs.declared.SetKey.{SetKey}
 use Rattle.cache.specs.Caches.{count}
 use Rattle.state.specs.declared.State.{State}
-use Rattle.rules.specs.Outcomes.{accepts, refuses}
-use Rattle.rules.specs.Steps.{Step, entryStep, taking, step}
-use Rattle.integrity.specs.Statement.{Moment, stepAt, after, run, entryIn, taken, onEntry, putBy, lastPut, Agrees, valueIn, cacheValues, stood, addedBy, evictedBy, adds, evicts, AllBytes}
+use Rattle.rules.specs.Outcomes.{accepts}
+use Rattle.rules.specs.Steps.{entryStep, step}
+use Rattle.integrity.specs.Statement.{Moment, after, run, taken, onEntry, putBy, lastPut, Agrees, valueIn, cacheValues, stood, addedBy, evictedBy, adds, evicts, AllBytes}
 use Rattle.integrity.proofs.Ancestors.{Key}
-use Rattle.integrity.proofs.Records.{Value, Cell, Message}
+use Rattle.integrity.proofs.Records.{Value, Message}
 use Rattle.integrity.proofs.Moves.{Cached}
 use Rattle.integrity.proofs.Lane.{Lane, lane-settled, Run, snoc, settled-mono, last-put, AllSay, Stood}
 use Rattle.integrity.proofs.Tallies.{tags}

@@ -1,17 +1,17 @@
 -- Refinement, the values that stood: what the lane's cache holds stands in a slot, and what stood is well formed, so that different values have
 -- different bytes, and equal digests are equal SHA-256.
-use mathlib.Core.Path.{_≡_, refl, sym, _∙_, ap, subst}
+use mathlib.Core.Path.{_≡_, refl, sym, _∙_, ap}
 use mathlib.Core.Logic.{_⊎_, inl, inr}
 use mathlib.Core.Bool.{true}
-use mathlib.Core.Option.{none, some, Option·none-ne-some, Option·some-injective}
+use mathlib.Core.Option.{some, Option·none-ne-some, Option·some-injective}
 use mathlib.Core.List.{List, [], _∷_, _++_, List·Memᴰ, List·Memᴰ·head, List·Memᴰ·tail, List·Memᴰ·cases-cons, List·Memᴰ·not-nil}
-use Prim.Native.Nat.{ℕ, zero, suc, _+_, _≤_, _<_}
+use Prim.Native.Nat.{ℕ, zero, suc, _+_}
 use native.Mathlib.Omega.{arith}
 use lib.ListN.{length, take, drop, length-append}
 use lib.Seq.{getD-drop, take-length}
-use Rattle.words.specs.Numbers.{bytesOf, Bytes}
+use Rattle.words.specs.Numbers.{Bytes}
 use Rattle.words.proofs.Laws.{both-true, bytes-length, part-bytes}
-use Rattle.sha256.specs.Sha256.{sha256, hashOf, hashBytes}
+use Rattle.sha256.specs.Sha256.{sha256}
 use Rattle.key.specs.Keys.{wellKey, isData}
 use Rattle.value.specs.Values.{valueBytes, wellValue, ValueFits, digestBytes}
 use Rattle.value.proofs.Same.{digest-same}

@@ -1,5 +1,4 @@
 -- Refinement, bytes: a slot that is written is bytes, a cache with bytes written into it too, and a digest fits its four words.
-use mathlib.Core.Path.{_≡_, refl}
 use mathlib.Core.Bool.{Bool, true, false}
 use mathlib.Core.List.{List, [], _∷_, _++_}
 use Prim.Native.Nat.{ℕ, zero, suc, _+_, _-_, _≤_, _<_}
@@ -13,7 +12,7 @@ use Rattle.words.proofs.Laws.{append-bytes, no-bytes, one-byte, number-bytes, f
 use Rattle.key.specs.Keys.{keyBytes}
 use Rattle.key.specs.declared.Key.{Key}
 use Rattle.key.proofs.Laws.{key-bytes}
-use Rattle.sha256.specs.Sha256.{sha256, hashOf, hashBytes}
+use Rattle.sha256.specs.Sha256.{sha256, hashOf}
 use Rattle.value.specs.Values.{markByte, digestBytes, linkBytes, sideBytes, fingerprintBytes, nodeBytes, valueBytes, DigestFits}
 use Rattle.value.specs.declared.Digest.{Digest}
 use Rattle.value.specs.declared.Side.{Side}

@@ -3,7 +3,7 @@
 // Promises upward: the entry at the place, its body as a part of the log itself, and the reader behind it, for any log and any place.
 ghost use mathlib.Core.Path.{_≡_};
 ghost use Prim.Native.Nat.{_≤_};
-ghost use lib.ListN.{length};
+ghost use lib.ListN.{length, drop};
 ghost use Rattle.entry.specs.Entries.{readEntry, readAt, readingUsed};
 ghost use Rattle.reader.specs.Places.{bodyAt, nextAt, placed};
 use entry::Head;
@@ -25,24 +25,28 @@ fn whole(log: &[u8]) -> usize
     }
 }
 
+// The log from a place on; nothing past its end.
+pub fn rest_at(log: &[u8], at: usize) -> &[u8]
+    ensures { λ r. ⌜ now r ≡ drop at (now (log .entry)) ⌝ }
+{
+    if log.len() < at {
+        return &log[0..0];
+    }
+    &log[at..]
+}
+
 // The body of the entry at a place: the plain form.
 pub fn body_at(log: &[u8], at: usize) -> &[u8]
     ensures { λ r. ⌜ now r ≡ bodyAt (now (log .entry)) at ⌝ }
 {
-    if log.len() <= at {
-        return &log[0..0];
-    }
-    entry::body(&log[at..])
+    entry::body(rest_at(log, at))
 }
 
 // The place behind the entry at a place; the same place where no whole entry stands there.
 pub fn next_at(log: &[u8], at: usize) -> usize
     ensures { λ r. ⌜ r ≡ nextAt (now (log .entry)) at ⌝ }
 {
-    if log.len() <= at {
-        return at;
-    }
-    at + whole(&log[at..])
+    at + whole(rest_at(log, at))
 }
 
 impl<'a> Reader<'a> {

@@ -1,42 +1,24 @@
 use Rattle.entry.specs.Entries.{readEntry, readingUsed}
 use mathlib.Core.List.{List}
-use Prim.Native.Nat.{ℕ}
-use Prim.Native.Nat.{_+_}
+use Prim.Native.Nat.{ℕ, _+_}
 use mathlib.Core.Path.{ap, _∙_}
-use Rattle.reader.proofs.Laws.{next-past, rest-is}
+use lib.ListN.{length, length-drop}
+use native.Mathlib.Omega.{arith}
 use borrow.Author.Needs.{needs}
 use Rattle.reader.proofs.next_at.Statement.{statement}
 use Rattle.reader.proofs.next_at.Tie as tie
 
-returns : tie.Need-returns
-returns c = next-past _ _ (c .if1 .taken)
-
-sub-whole : tie.Need-sub-whole
-sub-whole c = search needs
-
-part-whole-start : tie.Need-part-whole-start
-part-whole-start c = search needs
-
-part-whole-end : tie.Need-part-whole-end
-part-whole-end c = search needs
+rest-at-requires : tie.Need-rest-at-requires
+rest-at-requires c κs = search needs
 
 whole-requires : tie.Need-whole-requires
 whole-requires c κs = search needs
 
 add-result : tie.Need-add-result
-add-result c = search needs
+add-result c = omega (arith, c .whole .ensures .1, ap length (c .before .rest-at .ensures), length-drop (c .before .before .before .args .at) (c .before .before .before .args .log .now))
 
-returns-2 : tie.Need-returns-2
-returns-2 c = ap (λ (n : ℕ). c .before .before .before .before .args .at + n) (c .whole .ensures .0 ∙ ap (λ (l : List ℕ). readingUsed (readEntry l)) (rest-is (c .before .before .before .before .args .log .now) (c .before .before .before .before .args .at)))
+returns : tie.Need-returns
+returns c = ap (λ (n : ℕ). c .before .before .before .args .at + n) (c .whole .ensures .0 ∙ ap (λ (l : List ℕ). readingUsed (readEntry l)) (c .before .rest-at .ensures))
 
 pub next-at-spec : {M : Type 1} → statement M
-next-at-spec =
-    tie.close
-    (tie.spec
-    returns
-    sub-whole
-    part-whole-start
-    part-whole-end
-    whole-requires
-    add-result
-    returns-2)
+next-at-spec = tie.close (tie.spec rest-at-requires whole-requires add-result returns)

@@ -1,2 +1,3 @@
--- Laws of a run's turns.
+-- Empty versions of a run that fall, and the laws of its turns.
+pub mod Empty
 pub mod Laws

@@ -32,7 +32,7 @@ fn fingerprints_agree() {
     let mut inputs = Inputs(3);
     for length in [0, 1, 33, 4_096, 65_536, 65_537] {
         let sealed = inputs.bytes(length);
-        let mut fingerprint = second::sha256::Sha256::new().digest(&sealed);
+        let mut fingerprint = second::sha256::digest(&sealed);
         assert_eq!(compare::has_fingerprint(&sealed, &fingerprint), second::term::has_fingerprint(&sealed, &fingerprint));
         assert_eq!(compare::has_fingerprint(&sealed, &fingerprint).1, length <= 65_536);
         fingerprint[inputs.below(32)] ^= 1 << inputs.below(8);

@@ -48,6 +48,17 @@ pub fn cmac(key: &[u8; 16], m: &[u8]) -> [u8; 16] {
     aes::encrypt(&expanded, &(last ^ x).to_be_bytes())
 }
 
+/// The longest message of the tag call (document 01).
+const LONGEST: usize = 65_536;
+
+/// The public tag call: 0 and the tag, or 30 and zero bytes.
+pub fn tag_call(key: &[u8; 16], m: &[u8]) -> (u32, [u8; 16]) {
+    if m.len() > LONGEST {
+        return (30, [0; 16]);
+    }
+    (0, cmac(key, m))
+}
+
 #[cfg(test)]
 mod tests {
     use super::*;

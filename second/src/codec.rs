@@ -338,6 +338,10 @@ impl<'a> Input<'a> {
         self.rest.is_empty()
     }
 
+    pub fn rest(&self) -> &'a [u8] {
+        self.rest
+    }
+
     fn take<const N: usize>(&mut self) -> Option<[u8; N]> {
         let (front, rest) = self.rest.split_first_chunk::<N>()?;
         self.rest = rest;

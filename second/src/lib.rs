@@ -6,3 +6,4 @@ pub mod cmac;
 pub mod codec;
 pub mod sha256;
 pub mod term;
+pub mod verifier;

@@ -1,5 +1,7 @@
 //! SHA-256, from FIPS 180-4. The constants are computed from the primes that the standard names.
 
+use std::sync::OnceLock;
+
 /// The longest message that the public calls take.
 pub const LONGEST: usize = 65_536;
 
@@ -105,12 +107,18 @@ impl Sha256 {
     }
 }
 
+/// The digest of a message of any length.
+pub fn digest(message: &[u8]) -> [u8; 32] {
+    static SHA: OnceLock<Sha256> = OnceLock::new();
+    SHA.get_or_init(Sha256::new).digest(message)
+}
+
 /// The public digest call: 0 and the digest, or 30 and zero bytes.
 pub fn digest_call(message: &[u8]) -> (u32, [u8; 32]) {
     if message.len() > LONGEST {
         return (30, [0; 32]);
     }
-    (0, Sha256::new().digest(message))
+    (0, digest(message))
 }
 
 #[cfg(test)]

@@ -1,23 +1,24 @@
 -- Laws of the field, of words of four bytes, of the table, of rounds and of the key schedule. Assumes nothing.
-use mathlib.Core.Path.{_≡_, refl, ap, ap₂, sym, _∙_}
+use mathlib.Core.Path.{_≡_, refl, ap, ap₂, sym, _∙_, subst}
 use mathlib.Core.Bool.{Bool}
-use mathlib.Core.List.{List, [], _∷_, _++_, map, append-assoc}
+use mathlib.Core.List.{List, [], _∷_, _++_}
 use Prim.Native.Nat.{ℕ, zero, suc, _+_, _-_, _*_, _/_, _%_, _^_, _≤_, _<_, zero-le}
+use native.Mathlib.Decide.{ℕ-discrete}
 use native.Mathlib.Nat.{mod-lt, pow-suc, mul-comm}
 use native.Mathlib.Numerals.{add-one}
 use native.Mathlib.Omega.{arith}
 use borrow.Author.Tests.{eq-eqb, ne-eqb}
-use lib.Dec.{eqb, lit<}
 use lib.Arith.{lt-of-le-ne, digits-lt}
 use lib.Bits.{bitXor, bitOr, xor-lt, xor-block, or-shifted-r}
-use lib.ListN.{length, getD, take, drop, set, length-append, length-take, List·getD-map, List·getD-append}
-use lib.Seq.{take-suc-set, take-suc, getD-take, getD-at, take-append-seam}
+use lib.Dec.{lit<}
+use lib.ListN.{length, getD, take, set, length-append, List·getD-map, List·getD-append}
+use lib.Seq.{take-suc-set, getD-take, getD-at}
+use Rattle.words.proofs.Laws.{bytes-length, take-splice}
 use Rattle.words.specs.Choice.{pick}
 use Rattle.words.specs.Numbers.{numberAt, bytesOf}
 use Rattle.words.specs.Splices.{splice}
-use Rattle.words.proofs.Laws.{bytes-length}
-use Rattle.aes.specs.Field.{xtime, three, bit, affineBit, affineBits, affine, inverse, valuesOf, sbox, sub}
-use Rattle.aes.specs.Aes.{pack, byte0, byte1, byte2, byte3, state, subWord, subBytes, shifted, shiftRows, mixBytes, mixColumn, mixColumns, addRoundKey, round, rounds, lastRound, cipher, wordOf, rotWord, rcon, nextWord, schedule, keyWords, blockAt, blockBytes, encrypted, column, lastColumn, spread, table}
+use Rattle.aes.specs.Aes.{pack, byte0, byte1, byte2, byte3, state, subWord, shifted, mixBytes, mixColumn, addRoundKey, round, rounds, lastRound, cipher, wordOf, rotWord, rcon, nextWord, schedule, keyWords, blockAt, blockBytes, encrypted, column, lastColumn, spread, table}
+use Rattle.aes.specs.Field.{xtime, three, bit, affineBits, affine, inverse, valuesOf, sbox, sub}
 use Rattle.aes.specs.declared.Block.{Block}
 
 -- ---- values of a function in a list
@@ -26,6 +27,16 @@ pub values-length : (f : ℕ → ℕ) (n : ℕ) → length (valuesOf f n) ≡ n
 unfolding valuesOf
 values-length f zero = refl
 values-length f (suc n) = length-append (valuesOf f n) (f n ∷ []) ∙ ap (λ (k : ℕ). k + 1) (values-length f n) ∙ add-one n
+
+pub values-at : (f : ℕ → ℕ) (n i : ℕ) → i < n → getD (valuesOf f n) i 0 ≡ f i
+unfolding valuesOf
+values-at f zero i h = absurd (omega arith)
+values-at f (suc n) i h =
+    elim (ℕ-discrete i n) [
+      | yes e ↦ ap (λ (k : ℕ). getD (valuesOf f n ++ f n ∷ []) k 0) e ∙ getD-at (valuesOf f n) (f n) [] 0 n (values-length f n) ∙ ap f (sym e)
+      | no d ↦
+          List·getD-append (valuesOf f n) (f n ∷ []) 0 i (subst (λ (k : ℕ). i < k) (sym (values-length f n)) (lt-of-le-ne (omega arith) d)) ∙ values-at f n i (lt-of-le-ne (omega arith) d)
+    ]
 
 one-lt : (x m i : ℕ) → x < m → getD (x ∷ []) i 0 < m
 one-lt x m zero h = h
@@ -51,6 +62,11 @@ affine-bits-lt b (suc n) = rw (pow-suc, mul-comm (2 ^ n) 2) (digits-lt {m = 2} (
 affine-lt : (b : ℕ) → affine b < 256
 unfolding affine
 affine-lt b = affine-bits-lt b 8
+
+-- the substitution of a byte is the affine rule after the inverse
+pub sub-rule : (b : ℕ) → b < 256 → sub b ≡ affine (inverse b)
+unfolding sub sbox
+sub-rule b h = values-at (λ x. affine (inverse x)) 256 b h
 
 pub sub-lt : (b : ℕ) → sub b < 256
 unfolding sub sbox
@@ -241,29 +257,24 @@ next-take : (l : List ℕ) (j : ℕ) → nextWord (take (16 + 4 * j) l) j ≡ ne
 unfolding nextWord
 next-take l j = rw (number-take 4 l (16 + 4 * j) (4 * (j + 3)) (omega arith), number-take 4 l (16 + 4 * j) (4 * j) (omega arith))
 
--- the front of a splice
-splice-take : (d v : List ℕ) (at n : ℕ) → length v ≡ n → at ≤ length d → take (at + n) (splice d at v) ≡ take at d ++ v
-unfolding splice
-splice-take d v at n e h =
-    let l : length (take at d ++ v) ≡ at + n = simp (length-append, length-take) (omega arith) in
-    rw (← append-assoc, ← l, take-append-seam)
+-- the key's own bytes, put at the front
+pub schedule-none : (d m key : List ℕ) → length key ≡ 16 → m ≡ splice d 0 key → take (16 + 4 * 0) m ≡ schedule key 0
+unfolding schedule
+schedule-none d m key e p = ap (take 16) p ∙ take-splice d key 0 16 e zero-le
 
 pub schedule-more : (key l m : List ℕ) (j v : ℕ) → 16 + 4 * j + 4 ≤ length l → take (16 + 4 * j) l ≡ schedule key j → v ≡ nextWord l j → m ≡ splice l (16 + 4 * j) (bytesOf 4 v)
     → take (16 + 4 * (j + 1)) m ≡ schedule key (j + 1)
 unfolding schedule
 schedule-more key l m j v h e f g =
     let p : 16 + 4 * (j + 1) ≡ 16 + 4 * j + 4 = omega arith in
-    ap₂ (λ (n : ℕ) (x : List ℕ). take n x) p g ∙ splice-take l (bytesOf 4 v) (16 + 4 * j) 4 (bytes-length 4 v) (omega arith)
+    ap₂ (λ (n : ℕ) (x : List ℕ). take n x) p g ∙ take-splice l (bytesOf 4 v) (16 + 4 * j) 4 (bytes-length 4 v) (omega arith)
     ∙ ap₂ (λ (x : List ℕ) (y : ℕ). x ++ bytesOf 4 y) e (f ∙ sym (next-take l j) ∙ ap (λ (x : List ℕ). nextWord x j) e)
     ∙ sym (ap (schedule key) (add-one j))
 
--- ---- loops that store one element after another
+-- ---- values stored one after another
 
 stored : (w : List ℕ) (i v : ℕ) → i < length w → take (i + 1) (set w i v) ≡ take i w ++ v ∷ []
 stored w i v h = rw (add-one, take-suc-set)
-
-pub copy-more : (l w : List ℕ) (i : ℕ) → i < length l → i < length w → take i w ≡ take i l → take (i + 1) (set w i (getD l i 0)) ≡ take (i + 1) l
-copy-more l w i h k e = stored w i (getD l i 0) k ∙ ap (λ (x : List ℕ). x ++ getD l i 0 ∷ []) e ∙ sym (ap (λ (n : ℕ). take n l) (add-one i) ∙ take-suc l i 0 h)
 
 pub values-more : (f : ℕ → ℕ) (w : List ℕ) (i v : ℕ) → i < length w → take i w ≡ valuesOf f i → v ≡ f i → take (i + 1) (set w i v) ≡ valuesOf f (i + 1)
 unfolding valuesOf

@@ -1,7 +1,7 @@
 -- FIPS 197, section 5: AES-128, in the order of the document. A word is a number below 2 ^ 32 whose highest byte is the
 -- word's first, a0. The state is its four columns as words, as section 3.5 has it: w0 is the first column, and row r is
 -- byte r of each. The words w of the key schedule are a list; the expanded key is their bytes, word i at 4 i. Assumes nothing.
-use mathlib.Core.List.{List, [], _∷_, _++_, map}
+use mathlib.Core.List.{List, _++_, map}
 use Prim.Native.Nat.{ℕ, zero, suc, _+_, _*_, _/_, _%_, _^_}
 use lib.Bits.{bitXor}
 use lib.Dec.{eqb}

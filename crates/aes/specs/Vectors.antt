@@ -5,8 +5,8 @@ use mathlib.Core.List.{List, [], _∷_}
 use Prim.Native.Nat.{ℕ}
 use lib.ListN.{replicate}
 use Rattle.words.specs.Numbers.{numberAt, bytesOf}
-use Rattle.aes.specs.Field.{xtime, timesBits, times, powers, inverse, affineBits, affine, sbox, sub, valuesOf}
 use Rattle.aes.specs.Aes.{subWord, subBytes, shifted, shiftRows, mixBytes, mixColumn, mixColumns, addRoundKey, round, rounds, lastRound, cipher, power, nextWord, schedule, expansion, keyWords, blockBytes, encrypted}
+use Rattle.aes.specs.Field.{xtime, timesBits, times, powers, inverse, affineBits, affine, sbox, sub, valuesOf}
 
 -- figure 7: row x, column y is the substitution of {xy}
 unfoldable pub figure : List ℕ

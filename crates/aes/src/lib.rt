@@ -16,7 +16,7 @@ pub const BLOCK_BYTES: usize = 16;
 pub const EXPANDED_BYTES: usize = 176;
 
 // Words of the expansion: all, and those after the key's own.
-const SCHEDULE_WORDS: usize = 44;
+pub const SCHEDULE_WORDS: usize = 44;
 
 const NEW_WORDS: usize = 40;
 
@@ -334,7 +334,7 @@ fn last_column(t: &[u32; 256], w: u32, x: u32, y: u32, z: u32, k: u32) -> u32
     substituted(t, w, x, y, z) ^ k
 }
 
-// Inner.
+// Round i. Inner.
 fn one_round(t: &[u32; 256], k: &[u32; SCHEDULE_WORDS], i: usize, s: Block) -> Block
     requires { ⌜ (now t ≡ table) × (i < 11) ⌝ }
     ensures { λ r. ⌜ r ≡ round (now (k .entry)) i s ⌝ }
@@ -347,7 +347,7 @@ fn one_round(t: &[u32; 256], k: &[u32; SCHEDULE_WORDS], i: usize, s: Block) -> B
     }
 }
 
-// Inner.
+// The last round, without MixColumns. Inner.
 fn last_round(t: &[u32; 256], k: &[u32; SCHEDULE_WORDS], s: Block) -> Block
     requires { ⌜ now t ≡ table ⌝ }
     ensures { λ r. ⌜ r ≡ lastRound (now (k .entry)) s ⌝ }
@@ -393,6 +393,7 @@ fn load(b: &[u8], at: usize) -> u32
     words::quad_at(b, at) as u32
 }
 
+// The first byte of the round constant, and zeros. Inner.
 fn round_constant(i: usize) -> u32
     requires { ⌜ i < 10 ⌝ }
     ensures { λ r. ⌜ r ≡ rcon i ⌝ }
@@ -432,26 +433,13 @@ fn next_word(t: &[u32; 256], b: &[u8; EXPANDED_BYTES], j: usize) -> u32
     }
 }
 
-// The key's own bytes, with room for the rest. Inner.
-fn started(key: &[u8]) -> [u8; EXPANDED_BYTES]
-    requires { ⌜ length (now key) ≡ 16 ⌝ }
-    ensures { λ r. ⌜ take 16 r ≡ now (key .entry) ⌝ }
-{
-    let mut b = [0u8; EXPANDED_BYTES];
-    let mut i: usize = 0;
-    while i < KEY_BYTES {
-        b[i] = key[i];
-        i += 1;
-    }
-    b
-}
-
 // The expansion of a key.
 pub fn expand(key: &[u8; KEY_BYTES]) -> Expanded
     ensures { λ r. ⌜ r .bytes ≡ expansion (now (key .entry)) ⌝ }
 {
     let t = lay_table();
-    let mut b = started(key);
+    let mut b = [0u8; EXPANDED_BYTES];
+    words::put_bytes(&mut b, 0, key);
     let mut j: usize = 0;
     while j < NEW_WORDS {
         let w = next_word(&t, &b, j);

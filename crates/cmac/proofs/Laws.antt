@@ -1,22 +1,24 @@
 -- Laws of the chain, of the last block, and of a block as words. Assumes nothing.
 use mathlib.Core.Path.{_≡_, refl, ap, ap₂, sym, _∙_}
 use mathlib.Core.Bool.{Bool, true}
-use mathlib.Core.List.{List, [], _∷_, _++_, append-assoc, append-nil}
-use Prim.Native.Nat.{ℕ, suc, _+_, _-_, _*_, _^_, _≤_, _<_}
+use mathlib.Core.List.{List, [], _++_, append-assoc, append-nil}
+use Prim.Native.Nat.{ℕ, zero, suc, _+_, _-_, _*_, _^_, _≤_, _<_}
+use native.Mathlib.Nat.{zero-add, sub-zero, zero-sub, suc-sub-suc}
 use native.Mathlib.Numerals.{add-one}
 use native.Mathlib.Omega.{arith}
 use borrow.Author.Tests.{eq-eqb, ne-eqb, lt-ltb, le-ltb}
-use lib.ListN.{length, getD, take, drop, set, replicate, length-drop, length-append}
-use lib.Seq.{set-at, set-append-seam, append-snoc, take-suc, take-length, take-all, length-take-le}
+use lib.ListN.{length, take, drop, set, replicate, length-drop, length-append}
+use lib.Seq.{set-append-seam, take-all}
+use Rattle.words.proofs.Laws.{bytes-length, number-back, number-behind, number-split}
 use Rattle.words.specs.Choice.{pick}
 use Rattle.words.specs.Numbers.{numberAt, bytesOf, zeros}
-use Rattle.words.proofs.Laws.{bytes-length, number-back, number-behind, number-split}
+use Rattle.words.specs.Splices.{splice}
+use Rattle.verdict.specs.Verdicts.{accepted, tooLong}
 use Rattle.aes.specs.Aes.{cipher, expansion, keyWords, blockAt, blockBytes}
 use Rattle.aes.specs.declared.Block.{Block}
 use Rattle.cmac.specs.Cmac.{zeroBlock, xorBlock, double, key1, key2, whole, chain, padding, lastBlock, macBlock, cmac}
-use Rattle.cmac.specs.Tags.{messageLimit, tagWith, tagOf}
+use Rattle.cmac.specs.Tags.{longest, tagWith, tagOf}
 use Rattle.cmac.specs.declared.TagAnswer.{TagAnswer}
-use Rattle.verdict.specs.Verdicts.{accepted, tooLong}
 
 -- ---- the chain
 
@@ -27,23 +29,17 @@ chain-more w m i x u v r ex eu ev er = er ∙ ap (cipher w) (ev ∙ ap₂ xorBlo
 
 -- ---- a block that is filled up
 
-pub copied : (t b : List ℕ) (i : ℕ) → i < length t → length t < 16 → b ≡ take i t ++ replicate (16 - i) 0 → set b i (getD t i 0) ≡ take (i + 1) t ++ replicate (16 - (i + 1)) 0
-copied t b i h k p =
-    let e : 16 - i ≡ suc (16 - (i + 1)) = omega arith in
-    ap (λ (l : List ℕ). set l i (getD t i 0)) p
-    ∙ ap (λ (n : ℕ). set (take i t ++ replicate n 0) i (getD t i 0)) e
-    ∙ set-at (take i t) 0 (replicate (16 - (i + 1)) 0) (getD t i 0) i (length-take-le i t (omega arith))
-    ∙ sym (append-snoc (take i t) (getD t i 0) (replicate (16 - (i + 1)) 0))
-    ∙ ap (λ (l : List ℕ). l ++ replicate (16 - (i + 1)) 0) (sym (take-suc t i 0 h) ∙ ap (λ (n : ℕ). take n t) (sym (add-one i)))
+drop-zeros : (n k : ℕ) → drop {A = ℕ} k (replicate n 0) ≡ replicate (n - k) 0
+drop-zeros n zero = rw sub-zero
+drop-zeros zero (suc k) = rw zero-sub
+drop-zeros (suc n) (suc k) = rw suc-sub-suc (drop-zeros n k)
 
-pub filled-is : (t b : List ℕ) (i : ℕ) → length t < 16 → i ≡ length t → b ≡ take i t ++ replicate (16 - i) 0 → set b i 0x80 ≡ padding t
-unfolding zeros
-filled-is t b i h e p =
-    let n : 16 - length t ≡ suc (15 - length t) = omega arith in
-    let q : b ≡ t ++ replicate (16 - length t) 0 =
-    p ∙ ap (λ (n : ℕ). take n t ++ replicate (16 - n) 0) e ∙ ap (λ (l : List ℕ). l ++ replicate (16 - length t) 0) (take-length t) in
-    ap₂ (λ (l : List ℕ) (n : ℕ). set l n 0x80) q e
-    ∙ ap (λ (n : ℕ). set (t ++ replicate n 0) (length t) 0x80) n ∙ set-append-seam t 0 (replicate (15 - length t) 0) 0x80
+pub filled-is : (l b : List ℕ) (end : ℕ) → length l < 16 → end ≡ 0 + length l → b ≡ splice (replicate 16 0) 0 l → set b end 0x80 ≡ padding l
+unfolding zeros splice
+filled-is l b end h e p =
+    let n : 16 - length l ≡ suc (15 - length l) = omega arith in
+    let q : b ≡ l ++ replicate (suc (15 - length l)) 0 = p ∙ ap (λ (x : List ℕ). l ++ x) (ap (λ (k : ℕ). drop {A = ℕ} k (replicate 16 0)) (zero-add (length l)) ∙ drop-zeros 16 (length l) ∙ ap (λ (k : ℕ). replicate {A = ℕ} k 0) n) in
+    ap₂ (λ (x : List ℕ) (k : ℕ). set x k 0x80) q (e ∙ zero-add (length l)) ∙ set-append-seam l 0 (replicate (15 - length l) 0) 0x80
 
 -- ---- the last block, and the tag
 
@@ -106,13 +102,13 @@ module _ (bytes m : List ℕ) where
   abbrev answer : Bool → TagAnswer
   answer b = pick b (record { verdict = tooLong; bytes = zeros 16 }) (record { verdict = accepted; bytes = cmac bytes m })
 
-  pub tag-refused : messageLimit < length m → answer true ≡ tagWith bytes m
+  pub tag-refused : longest < length m → answer true ≡ tagWith bytes m
   unfolding tagWith
-  tag-refused h = sym (ap answer (lt-ltb messageLimit (length m) h))
+  tag-refused h = sym (ap answer (lt-ltb longest (length m) h))
 
-  pub tag-given : (t : List ℕ) → length m ≤ messageLimit → t ≡ cmac bytes m → record { verdict = accepted; bytes = t } ≡ tagWith bytes m
+  pub tag-given : (t : List ℕ) → length m ≤ longest → t ≡ cmac bytes m → record { verdict = accepted; bytes = t } ≡ tagWith bytes m
   unfolding tagWith
-  tag-given t h e = ap (λ (x : List ℕ). record { verdict = accepted; bytes = x }) e ∙ sym (ap answer (le-ltb messageLimit (length m) h))
+  tag-given t h e = ap (λ (x : List ℕ). record { verdict = accepted; bytes = x }) e ∙ sym (ap answer (le-ltb longest (length m) h))
 
 pub tag-of-is : (key bytes m : List ℕ) (r : TagAnswer) → bytes ≡ expansion key → r ≡ tagWith bytes m → r ≡ tagOf key m
 unfolding tagOf

@@ -1,16 +1,20 @@
 -- Sums of tags: xor of numbers, and so of tags, is an abelian group in which each element is its own inverse; and the test
 -- of two tags decides whether they are equal. Assumes nothing.
 use mathlib.Core.Path.{_≡_, refl, sym, _∙_, ap, ap₂}
-use mathlib.Core.Bool.{Bool, true, false}
+use mathlib.Core.Bool.{true}
+use mathlib.Core.List.{List, _++_}
 use mathlib.Core.Logic.{_⊎_, inl, inr}
 use Prim.Native.Nat.{ℕ, zero, suc, _≤_, _/_, _%_}
 use native.Mathlib.Decide.{ℕ-discrete}
 use native.Mathlib.Omega.{arith}
 use borrow.Author.Tests.{eq-eqb, eqb-true}
+use lib.Bits.{bitXor, xor-zero-l, xor-self, xor-comm, xor-shr, xor-mod}
 use lib.Dec.{eqb}
-use lib.Bits.{bitXor, xor-zero-l, xor-zero-r, xor-self, xor-comm, xor-shr, xor-mod}
-use Rattle.words.specs.Choice.{both}
-use Rattle.cmac.specs.Tags.{noTag, tagXor, tagEq}
+use lib.ListN.{length}
+use lib.Seq.{take-all}
+use Rattle.words.specs.Numbers.{bytesOf, Bytes}
+use Rattle.words.proofs.Laws.{both-true, true-both, bytes-back, part-join}
+use Rattle.cmac.specs.Tags.{tagWords, noTag, tagXor, tagEq}
 use Rattle.cmac.specs.declared.Tag.{Tag}
 
 -- ---- numbers
@@ -49,7 +53,7 @@ halves : (m n : ℕ) → m / 2 ≡ n / 2 → m % 2 ≡ n % 2 → m ≡ n
 halves m n p q = omega arith
 
 assoc-to : (n a b c : ℕ) → a ≤ n → xr (xr a b) c ≡ xr a (xr b c)
-assoc-to zero a b c h = let z : a ≡ 0 = omega arith in rw (z, zero-left, zero-left)
+assoc-to zero a b c h = let z : a ≡ 0 = omega arith in rw (z, zero-left b, zero-left (xr b c))
 assoc-to (suc n) a b c h =
     halves _ _
     (half (xr a b) c ∙ ap (λ x. xr x (c / 2)) (half a b) ∙ assoc-to n (a / 2) (b / 2) (c / 2) (omega arith) ∙ ap (xr (a / 2)) (sym (half b c)) ∙ sym (half a (xr b c)))
@@ -76,11 +80,13 @@ tag-zero a = refl
 pub tag-self : (a : Tag) → tagXor a a ≡ noTag
 tag-self a = ap₂ tag (xor-self (a .t0)) (xor-self (a .t1))
 
--- ---- the test of two tags
+-- two words have all of a tag's sixteen bytes
+pub tag-back : (l : List ℕ) → Bytes l → length l ≡ 16 → bytesOf 8 (tagWords l .t0) ++ bytesOf 8 (tagWords l .t1) ≡ l
+tag-back l b e =
+    ap₂ (λ (x y : List ℕ). x ++ y) (bytes-back 8 l 0 b (omega arith)) (bytes-back 8 l 8 b (omega arith))
+    ∙ part-join l 0 8 8 8 refl ∙ take-all 16 l (omega arith)
 
-both-true : (x y : Bool) → both x y ≡ true → (x ≡ true) × (y ≡ true)
-both-true true y e = (refl, e)
-both-true false y e = (e, cc)
+-- ---- the test of two tags
 
 pub tag-eq : (a b : Tag) → tagEq a b ≡ true → a ≡ b
 tag-eq a b e =
@@ -88,4 +94,4 @@ tag-eq a b e =
     ap₂ tag (eqb-true (a .t0) (b .t0) (p .0)) (eqb-true (a .t1) (b .t1) (p .1))
 
 pub eq-tag : (a b : Tag) → a ≡ b → tagEq a b ≡ true
-eq-tag a b e = ap₂ both (eq-eqb (a .t0) (b .t0) (ap (λ (x : Tag). x .t0) e)) (eq-eqb (a .t1) (b .t1) (ap (λ (x : Tag). x .t1) e))
+eq-tag a b e = true-both (eqb (a .t0) (b .t0)) (eqb (a .t1) (b .t1)) (eq-eqb (a .t0) (b .t0) (ap (λ (x : Tag). x .t0) e)) (eq-eqb (a .t1) (b .t1) (ap (λ (x : Tag). x .t1) e))

@@ -1,6 +1,6 @@
 -- RFC 4493: AES-CMAC under the words w of an expanded key, in the order of the document. A block of 128 bits is its four
 -- words, the first the highest. Assumes nothing.
-use mathlib.Core.List.{List, [], _∷_, _++_}
+use mathlib.Core.List.{List, _∷_, _++_}
 use Prim.Native.Nat.{ℕ, zero, suc, _+_, _-_, _*_, _/_, _%_, _^_}
 use lib.Bits.{bitXor}
 use lib.Dec.{eqb}

@@ -1,7 +1,7 @@
 -- Tags as two words, the sum of tags by xor (document 01: "Sums are 16 bytes, the xor of tags"), and the answer of the tag
 -- call, which refuses a message over 65,536 bytes. Assumes nothing.
-use mathlib.Core.List.{List}
 use mathlib.Core.Bool.{Bool}
+use mathlib.Core.List.{List}
 use Prim.Native.Nat.{ℕ}
 use lib.Bits.{bitXor}
 use lib.Dec.{eqb, ltb}
@@ -29,13 +29,13 @@ abbrev pub tagEq : Tag → Tag → Bool
 tagEq a b = both (eqb (a .t0) (b .t0)) (eqb (a .t1) (b .t1))
 
 -- document 01: the longest message of a tag call
-abbrev pub messageLimit : ℕ
-messageLimit = 65536
+abbrev pub longest : ℕ
+longest = 65536
 
 -- the tag call under the 176 bytes of an expanded key, and under a set key
 unfoldable pub tagWith : List ℕ → List ℕ → TagAnswer
 tagWith bytes m =
-    pick (ltb messageLimit (length m))
+    pick (ltb longest (length m))
     (record { verdict = tooLong; bytes = zeros 16 })
     (record { verdict = accepted; bytes = cmac bytes m })
 

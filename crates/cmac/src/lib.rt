@@ -8,7 +8,7 @@ ghost use Rattle.cmac.specs.Cmac.{zeroBlock, xorBlock, double, key1, key
 ghost use Rattle.cmac.specs.Tags.{tagWords, tagXor, tagEq, tagWith, tagOf};
 
 // The longest message of a tag call (document 01).
-pub const MESSAGE_LIMIT: usize = 65536;
+pub const LONGEST: usize = 65536;
 
 // A tag, or a sum of tags: sixteen bytes as two words, high byte first.
 pub struct Tag {
@@ -19,7 +19,7 @@ pub struct Tag {
 // The answer of a tag call: 0 and the tag, or 30 and sixteen zero bytes.
 pub struct TagAnswer {
     pub verdict: u32,
-    pub bytes: [u8; 16],
+    pub bytes: [u8; aes::BLOCK_BYTES],
 }
 
 impl Tag {
@@ -86,8 +86,8 @@ fn before_last(n: usize) -> usize
     }
 }
 
-// Inner.
-fn chained(t: &[u32; 256], k: &[u32; 44], m: &[u8], n: usize) -> aes::Block
+// The chain over the first n blocks of m. Inner.
+fn chained(t: &[u32; 256], k: &[u32; aes::SCHEDULE_WORDS], m: &[u8], n: usize) -> aes::Block
     requires { ⌜ (now t ≡ table) × (16 * n ≤ length (now m)) ⌝ }
     ensures { λ r. ⌜ r ≡ chain (now (k .entry)) (now (m .entry)) n ⌝ }
 {
@@ -101,22 +101,18 @@ fn chained(t: &[u32; 256], k: &[u32; 44], m: &[u8], n: usize) -> aes::Block
 }
 
 // A last block that is not whole, filled up. Inner.
-fn filled(l: &[u8]) -> [u8; 16]
+fn filled(l: &[u8]) -> [u8; aes::BLOCK_BYTES]
     requires { ⌜ length (now l) < 16 ⌝ }
     ensures { λ r. ⌜ r ≡ padding (now (l .entry)) ⌝ }
 {
-    let mut b = [0u8; 16];
-    let mut i: usize = 0;
-    while i < l.len() {
-        b[i] = l[i];
-        i += 1;
-    }
-    b[i] = 0x80;
+    let mut b = [0u8; aes::BLOCK_BYTES];
+    let end = words::put_bytes(&mut b, 0, l);
+    b[end] = 0x80;
     b
 }
 
 // The first subkey. Inner.
-fn subkey(t: &[u32; 256], k: &[u32; 44]) -> aes::Block
+fn subkey(t: &[u32; 256], k: &[u32; aes::SCHEDULE_WORDS]) -> aes::Block
     requires { ⌜ now t ≡ table ⌝ }
     ensures { λ r. ⌜ r ≡ key1 (now (k .entry)) ⌝ }
 {
@@ -124,7 +120,7 @@ fn subkey(t: &[u32; 256], k: &[u32; 44]) -> aes::Block
 }
 
 // The last block, with its subkey. Inner.
-fn last_block(t: &[u32; 256], k: &[u32; 44], l: &[u8]) -> aes::Block
+fn last_block(t: &[u32; 256], k: &[u32; aes::SCHEDULE_WORDS], l: &[u8]) -> aes::Block
     requires { ⌜ (now t ≡ table) × (length (now l) ≤ 16) ⌝ }
     ensures { λ r. ⌜ r ≡ lastBlock (now (k .entry)) (now (l .entry)) ⌝ }
 {
@@ -138,7 +134,7 @@ fn last_block(t: &[u32; 256], k: &[u32; 44], l: &[u8]) -> aes::Block
 }
 
 // The tag as a block, with table and key words lent. Inner.
-fn mac_block(t: &[u32; 256], k: &[u32; 44], m: &[u8]) -> aes::Block
+fn mac_block(t: &[u32; 256], k: &[u32; aes::SCHEDULE_WORDS], m: &[u8]) -> aes::Block
     requires { ⌜ now t ≡ table ⌝ }
     ensures { λ r. ⌜ r ≡ macBlock (now (k .entry)) (now (m .entry)) ⌝ }
 {
@@ -176,7 +172,7 @@ pub fn mac(key: aes::Expanded, m: &[u8]) -> Tag
 }
 
 // The tag of m, of any length, as bytes.
-fn mac_bytes(key: aes::Expanded, m: &[u8]) -> [u8; 16]
+fn mac_bytes(key: aes::Expanded, m: &[u8]) -> [u8; aes::BLOCK_BYTES]
     ensures { λ r. ⌜ r ≡ cmac (key .bytes) (now (m .entry)) ⌝ }
 {
     let t = aes::lay_table();
@@ -189,10 +185,10 @@ fn mac_bytes(key: aes::Expanded, m: &[u8]) -> [u8; 16]
 pub fn tag_with(key: aes::Expanded, m: &[u8]) -> TagAnswer
     ensures { λ r. ⌜ r ≡ tagWith (key .bytes) (now (m .entry)) ⌝ }
 {
-    if MESSAGE_LIMIT < m.len() {
+    if LONGEST < m.len() {
         return TagAnswer {
             verdict: verdict::TOO_LONG,
-            bytes: [0u8; 16],
+            bytes: [0u8; aes::BLOCK_BYTES],
         };
     }
     let b = mac_bytes(key, m);
@@ -203,7 +199,7 @@ pub fn tag_with(key: aes::Expanded, m: &[u8]) -> TagAnswer
 }
 
 // The tag call under a set key.
-pub fn tag_of(key: &[u8; 16], m: &[u8]) -> TagAnswer
+pub fn tag_of(key: &[u8; aes::KEY_BYTES], m: &[u8]) -> TagAnswer
     ensures { λ r. ⌜ r ≡ tagOf (now (key .entry)) (now (m .entry)) ⌝ }
 {
     tag_with(aes::expand(key), m)

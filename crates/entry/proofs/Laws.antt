@@ -9,7 +9,7 @@ use lib.Seq.{take-all, take-append-le, drop-append-le, getD-take}
 use borrow.Author.Tests.{lt-ltb, le-ltb, ltb-false}
 use Rattle.words.specs.Numbers.{numberAt}
 use Rattle.words.specs.Splices.{part}
-use Rattle.words.proofs.Laws.{number-front, picked}
+use Rattle.words.proofs.Laws.{number-front, picked, never}
 use Rattle.entry.specs.Entries.{entryOf, headOf, headEnd, readBy, readingOf, readEntry, readAt, readingUsed}
 use Rattle.entry.specs.declared.EntryRead.{EntryRead}
 use Rattle.entry.specs.declared.EntryRead.the-variants.{Good, Bad}
@@ -36,9 +36,6 @@ pub record HeadThere (log : List ℕ) (t n : ℕ) : Type 0 where
   pub whole : 3 + n ≤ length log
   pub tag : getD log 0 0 ≡ t
   pub len : numberAt 2 log 1 ≡ n
-
-never : {A : Type 0} → _≡_ {A = ℕ} 0 1 → A
-never e = absurd (omega arith)
 
 pub head-there : (log : List ℕ) (t n : ℕ) → headOf log ≡ Whole t n → HeadThere log t n
 unfolding headOf
@@ -76,6 +73,10 @@ used-within log = rw (read-used log) (go (headOf log) refl)
     go : (h : Head) → headOf log ≡ h → headEnd h ≤ length log
     go Cut e = omega arith
     go (Whole t n) e = head-there log t n e .whole
+
+-- so a place in the log and the bytes used there stay within it
+pub used-at : (log : List ℕ) (at : ℕ) → at ≤ length log → at + readingUsed (readAt log at) ≤ length log
+used-at log at h = omega (arith, used-within (drop at log), length-drop at log)
 
 cut-short : (log : List ℕ) → headOf log ≡ Cut → readEntry log ≡ reading.Short
 unfolding readEntry

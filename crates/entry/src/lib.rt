@@ -20,7 +20,7 @@ use words::word_at;
 // A tag byte and a two-byte length.
 pub const HEAD_BYTES: usize = 3;
 
-const LENGTH_AT: usize = 1;
+pub const LENGTH_AT: usize = 1;
 
 // The tags of the ten entries.
 pub const ADD_TREE_TAG: u8 = 1;
@@ -44,28 +44,28 @@ pub const ADVANCE_TAG: u8 = 9;
 pub const CLOSE_TAG: u8 = 10;
 
 // A slot takes two bytes, and where there are two, the second stands behind the first.
-const SLOT_BYTES: usize = 2;
+pub const SLOT_BYTES: usize = 2;
 
-const TWO_SLOTS: usize = 4;
+pub const TWO_SLOTS: usize = 4;
 
 // Where the parts of entry 1 stand in its body: s, p, key, value.
-const ADD_TREE_KEY: usize = 4;
+pub const ADD_TREE_KEY: usize = 4;
 
-const ADD_TREE_VALUE: usize = 38;
+pub const ADD_TREE_VALUE: usize = 38;
 
 // Where those of entry 2 stand: s, epoch, time, key, value.
-const ADD_DEFERRED_EPOCH: usize = 2;
+pub const ADD_DEFERRED_EPOCH: usize = 2;
 
-const ADD_DEFERRED_TIME: usize = 10;
+pub const ADD_DEFERRED_TIME: usize = 10;
 
-const ADD_DEFERRED_KEY: usize = 18;
+pub const ADD_DEFERRED_KEY: usize = 18;
 
-const ADD_DEFERRED_VALUE: usize = 52;
+pub const ADD_DEFERRED_VALUE: usize = 52;
 
 // Where those of entries 6, 7 and 8 stand: a slot, a data key, and in 6 and 8 a value.
-const DATA_KEY: usize = 2;
+pub const DATA_KEY: usize = 2;
 
-const DATA_VALUE: usize = 34;
+pub const DATA_VALUE: usize = 34;
 
 // s is the record's slot, p its ancestor's.
 pub enum Entry {

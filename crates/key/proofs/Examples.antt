@@ -1,8 +1,7 @@
 -- The keys of document 01's marked examples, computed: Z is 256 zeros, B is 256 ones, C is 1 and then 255 zeros.
 use mathlib.Core.Path.{_≡_, refl}
-use mathlib.Core.List.{List, [], _∷_, _++_}
-use mathlib.Core.Bool.{Bool, true, false}
-use Prim.Native.Nat.{ℕ}
+use mathlib.Core.List.{[], _∷_}
+use mathlib.Core.Bool.{true, false}
 use Rattle.words.specs.Numbers.{numberAt, bytesOf, zeros}
 use Rattle.key.specs.Keys.{keyAt, keyBytes, rawKey, wellKey, clean, rootKey, dataKey, above, sameTop, toward, bitAt}
 use Rattle.key.specs.Bits.{firstBits, bits}

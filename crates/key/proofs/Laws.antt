@@ -1,8 +1,8 @@
 -- Laws of keys: the tests on words, and the round trip through bytes. Assumes nothing.
-use Prim.Native.Nat.{ℕ, zero, suc, _+_, _*_, _-_, _/_, _%_, _^_, _≤_, _<_}
+use Prim.Native.Nat.{ℕ, _+_, _*_, _%_, _^_, _≤_, _<_}
 use mathlib.Core.Path.{_≡_, refl, ap, sym, _∙_}
-use mathlib.Core.List.{List, [], _∷_, _++_, append-assoc}
-use mathlib.Core.Bool.{Bool, true, false}
+use mathlib.Core.List.{List, [], _++_, append-assoc}
+use mathlib.Core.Bool.{true, false}
 use native.Mathlib.Nat.{div-eq-of-lt, div-one, mod-one, mod-eq-of-lt, sub-eq-zero-of-le, one-mul, add-assoc}
 use native.Mathlib.Omega.{arith}
 use lib.ListN.{length, length-append}
@@ -12,7 +12,7 @@ use lib.Pow.{shl-exact}
 use Rattle.words.specs.Choice.{pick}
 use Rattle.words.specs.Numbers.{numberAt, bytesOf, Bytes}
 use Rattle.words.specs.Splices.{part}
-use Rattle.words.proofs.Laws.{bytes-length, number-at, number-lt, bytes-back, part-join, fourWords, four-length, four-at, four-back, four-bytes, append-bytes, number-bytes, both-true}
+use Rattle.words.proofs.Laws.{bytes-length, number-at, number-lt, bytes-back, part-join, four-length, four-at, four-back, four-bytes, append-bytes, number-bytes, both-true, picked, never}
 use Rattle.key.specs.Keys.{keyAt, rawKey, dataAt, dataKey, isData, wellKey, keyBytes, dataBytes, KeyFits, keyEq, sameTop, clean}
 use Rattle.key.specs.declared.Key.{Key}
 use Rattle.key.specs.declared.KeyRead.the-variants.{Good, Bad}
@@ -160,15 +160,11 @@ raw-fits s at b =
       w3 = number-lt 8 s (at + 26) b;
     }
 
-picked : (k j : Key) (t : Bool) → pick t (Good j) Bad ≡ Good k → (j ≡ k) × (t ≡ true)
-picked k j true e = (cc, refl)
-picked k j false e = absurd (let z : _≡_ {A = ℕ} 0 1 = cc in omega arith)
-
 module _ (s : List ℕ) (at : ℕ) (k : Key) (e : keyAt s at ≡ Good k) where
   -- a key that is read is what the bytes say, and well formed
   key-raw : (rawKey s at ≡ k) × (wellKey (rawKey s at) ≡ true)
   unfolding keyAt
-  key-raw = picked k (rawKey s at) (wellKey (rawKey s at)) e
+  key-raw = picked (wellKey (rawKey s at)) _ _ _ e (λ w q. (cc, w)) (λ _ q. never cc)
 
   pub key-well : wellKey k ≡ true
   key-well = rw (key-raw .0) at (key-raw .1)

@@ -12,7 +12,7 @@ use lib.Seq.{split-at, take-append-le, take-all, getD-at}
 use lib.Pow.{shr-shr, split}
 use lib.Dec.{eqb, ltb, leb, lit<}
 use borrow.Author.Tests.{eqb-true, eq-eqb, ltb-true, lt-ltb, le-ltb, leb-true}
-use Rattle.words.specs.Choice.{both, pick}
+use Rattle.words.specs.Choice.{pick}
 use Rattle.words.proofs.Laws.{both-true, true-both}
 use Rattle.key.specs.Keys.{KeyFits, wellKey, clean, sameTop, above, toward, bitAt}
 use Rattle.key.specs.Bits.{firstBits, bits, shared, ProperPrefix}

@@ -1,20 +1,24 @@
 // Keys: strings of 0 to 256 bits, as 34 bytes and as words, with the tests that the entries make.
 // Promises upward: what is written is read back, every bit past the length is zero, `above` is proper prefix, `toward` the next bit.
 ghost use mathlib.Core.Path.{_≡_};
-ghost use Prim.Native.Nat.{ℕ, _+_, _-_, _%_, _^_, _≤_, _<_};
+ghost use Prim.Native.Nat.{_+_, _-_, _%_, _^_, _≤_, _<_};
 ghost use lib.ListN.{length};
 ghost use Rattle.words.specs.Splices.{splice};
 ghost use Rattle.key.specs.Keys.{keyAt, keyBytes, dataAt, dataBytes, keyEq, above, toward, bitAt, wellKey, rootKey, dataKey, isData, clean, sameTop};
+use words::Four;
 use words::and;
+use words::four_at;
 use words::pair_at;
+use words::put_four;
 use words::put_pair;
-use words::put_word;
-use words::word_at;
 
 // A key's bytes with its length, and a data key's without.
 pub const KEY_BYTES: usize = 34;
 
 pub const DATA_BYTES: usize = 32;
+
+// A key's length stands before its bits.
+const LENGTH_BYTES: usize = 2;
 
 // The bits that one word, two and three hold.
 const ONE_WORD: u64 = 64;
@@ -188,12 +192,13 @@ impl Key {
         requires { ⌜ at + 32 ≤ length (now s) ⌝ }
         ensures { λ r. ⌜ r ≡ dataAt (now (s .entry)) at ⌝ }
     {
+        let x = four_at(s, at);
         Key {
             len: Key::WIDEST,
-            w0: word_at(s, at),
-            w1: word_at(s, at + 8),
-            w2: word_at(s, at + 16),
-            w3: word_at(s, at + 24),
+            w0: x.first,
+            w1: x.second,
+            w2: x.third,
+            w3: x.fourth,
         }
     }
 
@@ -202,7 +207,7 @@ impl Key {
         requires { ⌜ at + 34 ≤ length (now s) ⌝ }
         ensures { λ r. ⌜ r ≡ keyAt (now (s .entry)) at ⌝ }
     {
-        let mut k = Key::read_data(s, at + 2);
+        let mut k = Key::read_data(s, at + LENGTH_BYTES);
         k.len = pair_at(s, at) as u16;
         if k.well() {
             KeyRead::Good(k)
@@ -216,10 +221,13 @@ impl Key {
         requires { ⌜ at + 32 ≤ length (now s) ⌝ }
         ensures { λ _. ⌜ now (s .exit) ≡ splice (now (s .entry)) at (dataBytes self) ⌝ }
     {
-        put_word(s, at, self.w0);
-        put_word(s, at + 8, self.w1);
-        put_word(s, at + 16, self.w2);
-        put_word(s, at + 24, self.w3);
+        let x = Four {
+            first: self.w0,
+            second: self.w1,
+            third: self.w2,
+            fourth: self.w3,
+        };
+        put_four(s, at, x);
     }
 
     // Inner.
@@ -228,6 +236,6 @@ impl Key {
         ensures { λ _. ⌜ now (s .exit) ≡ splice (now (s .entry)) at (keyBytes self) ⌝ }
     {
         put_pair(s, at, self.len as u64);
-        self.write_data(s, at + 2);
+        self.write_data(s, at + LENGTH_BYTES);
     }
 }

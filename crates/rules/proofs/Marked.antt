@@ -11,6 +11,7 @@ use Rattle.words.specs.Splices.{splice}
 use Rattle.key.specs.Keys.{dataKey, clean, wellKey, keyBytes, rawKey, keyAt, dataAt, dataBytes, keyEq, sameTop, above, bitAt, toward}
 use Rattle.key.specs.declared.Key.{Key}
 use Rattle.value.specs.Values.{bareNode, sideOf, digestAt, digestBytes, digestEq, linkBytes, sideBytes, fingerprintBytes, nodeBytes, valueBytes, linkAt, sideAt, nodeAt, fingerprintAt, valueAt, fits, isFirst, valueEq}
+use Rattle.value.specs.declared.Digest.{Digest}
 use Rattle.value.specs.declared.Side.{Side}
 use Rattle.value.specs.declared.Side.the-variants.{Empty, Link}
 use Rattle.value.specs.declared.Value.{Value}
@@ -20,7 +21,8 @@ use Rattle.message.specs.declared.Time.{Time}
 use Rattle.entry.specs.Entries.{addTreeAt, addDeferredAt, pairOfSlots, evictDeferredAt, recordAt, absentAt, emptyAt, entryOf, headOf, readEntry, entryTag, entryBody, entryBytes}
 use Rattle.entry.specs.declared.Entry.{Entry}
 use Rattle.entry.specs.declared.Entry.the-variants.{AddTree, AddDeferred, EvictTree, EvictDeferred, EvictTreeDeferred, Get, Absent, Put, Advance, Close}
-use Rattle.hash.specs.Hashes.{setKey}
+use Rattle.hash.specs.Hashes.{setKey, digestOf}
+use Rattle.sha256.specs.Sha256.{K, words, next, schedule, round, rounds, compress, after, padded, hashOf, sha256}
 use Rattle.slot.specs.Slots.{slotBytes, allZero, slotAt}
 use Rattle.slot.specs.declared.Slot.{Slot}
 use Rattle.slot.specs.declared.Slot.the-variants as sl
@@ -64,12 +66,12 @@ pub record End : Type 0 where
   pub state : State
   pub bytes : List ℕ
 
-abbrev after : Step → List ℕ → End
-after r vs = record { verdicts = vs ++ (r .result .verdict ∷ []); state = r .result .state; bytes = r .bytes }
+abbrev ended : Step → List ℕ → End
+ended r vs = record { verdicts = vs ++ (r .result .verdict ∷ []); state = r .result .state; bytes = r .bytes }
 
 unfoldable pub run : List Entry → End → End
 run [] e = e
-run (x ∷ xs) e = run xs (after (step (entryBytes x) (e .state) (e .bytes)) (e .verdicts))
+run (x ∷ xs) e = run xs (ended (step (entryBytes x) (e .state) (e .bytes)) (e .verdicts))
 
 unfoldable pub fresh : End
 fresh = record { verdicts = []; state = freshState (zeros 16); bytes = openedCache 3 }
@@ -165,3 +167,26 @@ allHold (r ∷ rs) = both (agrees r (run (r .told) fresh)) (allHold rs)
 pub marked-hold : allHold marked ≡ true
 unfolding marked allHold sameNumbers run fresh numberAt bytesOf zeros splice clean wellKey keyBytes rawKey keyAt dataAt dataBytes keyEq sameTop above bitAt toward digestAt digestBytes digestEq linkBytes sideBytes fingerprintBytes nodeBytes valueBytes linkAt sideAt nodeAt fingerprintAt valueAt fits isFirst valueEq addTreeAt addDeferredAt pairOfSlots evictDeferredAt recordAt absentAt emptyAt entryOf headOf readEntry entryTag entryBody entryBytes setKey slotBytes allZero slotAt wellLength heldIn held wellRecord wellAt wellFrom wellCache openedCache wellState addedCurrent addedOld evictedState evictMessage evicted advancedState closedState freshState linked addLink addNode addUnder addTree namedEpoch addInto addDeferred unlinked evictLink evictNode evictUnder evictBy evictDeferred get absent put advance close entryStep stepWell step
 marked-hold = refl
+
+-- ---- the digest in a new link is that of the value as stored, the old link put in: M10's node, with the digests worked out
+
+abbrev sideDigest : Side → Digest
+sideDigest Empty = record { d0 = 0; d1 = 0; d2 = 0; d3 = 0 }
+sideDigest (Link k d m) = d
+
+abbrev rightDigest : Value → Digest
+rightDigest v.None = sideDigest Empty
+rightDigest (v.Fingerprint d) = sideDigest Empty
+rightDigest (v.Node n) = sideDigest (n .right)
+
+abbrev slotValue : Slot → Value
+slotValue sl.Free = v.None
+slotValue sl.Bad = v.None
+slotValue (sl.Full o j x) = x
+
+abbrev split : List ℕ
+split = run (AddTree 1 0 B v.None ∷ AddTree 2 0 one bare ∷ []) fresh .bytes
+
+pub stored-digest : rightDigest (slotValue (slotIn split 0)) ≡ digestOf (slotValue (slotIn split 2))
+unfolding run fresh numberAt bytesOf zeros splice clean wellKey keyBytes rawKey keyAt dataAt dataBytes keyEq sameTop above bitAt toward digestAt digestBytes digestEq linkBytes sideBytes fingerprintBytes nodeBytes valueBytes linkAt sideAt nodeAt fingerprintAt valueAt fits isFirst valueEq addTreeAt addDeferredAt pairOfSlots evictDeferredAt recordAt absentAt emptyAt entryOf headOf readEntry entryTag entryBody entryBytes setKey slotBytes allZero slotAt wellLength heldIn held wellRecord wellAt wellFrom wellCache openedCache wellState addedCurrent addedOld evictedState evictMessage evicted advancedState closedState freshState linked addLink addNode addUnder addTree namedEpoch addInto addDeferred unlinked evictLink evictNode evictUnder evictBy evictDeferred get absent put advance close entryStep stepWell step digestOf sha256 hashOf after padded words next schedule round rounds compress K
+stored-digest = refl

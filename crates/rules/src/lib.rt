@@ -2,7 +2,8 @@
 // theorem about settled answers share. The declared types are those that the code returns.
 // Promises upward: document 01's examples M1 to M12 follow from the definitions; a refused entry changes nothing; an accepted one keeps
 // the state well formed.
-
+ghost use mathlib.Core.Path.{_≡_};
+ghost use Rattle.rules.specs.Outcomes.{gives};
 use state::State;
 use state::Tally;
 
@@ -24,4 +25,11 @@ pub enum Named {
     Current,
     Old(Tally),
     NotOpen,
+}
+
+// A verdict, and the state after it.
+pub fn gives(verdict: u32, state: State) -> Done
+    ensures { λ r. ⌜ r ≡ gives verdict state ⌝ }
+{
+    Done { verdict, state }
 }

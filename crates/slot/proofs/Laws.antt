@@ -1,4 +1,4 @@
--- Laws of a slot as it is written: zeros, the tail's test, and its length. Assumes nothing.
+-- Laws of a slot as it is written: zeros, the tail's test, its length and its bytes. Assumes nothing.
 use Prim.Native.Nat.{ℕ, zero, suc, _+_, _*_, _-_, _≤_, _<_}
 use mathlib.Core.Path.{_≡_, refl, ap, sym, _∙_}
 use mathlib.Core.List.{List, [], _∷_, _++_}
@@ -6,20 +6,21 @@ use mathlib.Core.Bool.{Bool, false}
 use native.Mathlib.Omega.{arith}
 use native.Mathlib.Numerals.{add-one}
 use native.Mathlib.Nat.{add-suc, add-zero, suc-sub-suc, sub-zero, zero-sub, zero-add}
-use lib.Dec.{eqb}
-use lib.ListN.{length, getD, drop, replicate, length-append}
+use lib.Dec.{eqb, lit<}
+use lib.ListN.{length, getD, take, drop, length-append}
 use lib.Seq.{drop-cons}
 use borrow.Author.Tests.{eq-eqb, ne-eqb}
 use Rattle.words.specs.Choice.{both}
-use Rattle.words.specs.Numbers.{numberAt, zeros}
+use Rattle.words.specs.Numbers.{numberAt, zeros, Bytes}
 use Rattle.words.specs.Splices.{splice}
-use Rattle.words.proofs.Laws.{zeros-length}
+use Rattle.words.proofs.Laws.{zeros-length, no-bytes, one-byte, append-bytes}
 use Rattle.key.specs.Keys.{keyBytes}
 use Rattle.key.specs.declared.Key.{Key}
 use Rattle.key.proofs.Laws.{key-length}
 use Rattle.value.specs.declared.Value.{Value}
 use Rattle.value.specs.Values.{valueBytes}
 use Rattle.value.proofs.Laws.{value-length}
+use Rattle.value.proofs.Written.{then, one, key, value}
 use Rattle.slot.specs.Slots.{slotLength, allZero, filled, slotBytes}
 
 -- ---- the test of zeros
@@ -59,14 +60,21 @@ module _ (n : ℕ) (s : List ℕ) (i : ℕ) (h : i + n ≤ length s) where
 
 -- ---- what is written over zeros
 
-drop-replicate : (n m x : ℕ) → drop n (replicate m x) ≡ replicate (m - n) x
-drop-replicate zero m x = rw sub-zero
-drop-replicate (suc n) zero x = rw zero-sub
-drop-replicate (suc n) (suc m) x = rw suc-sub-suc (drop-replicate n m x)
+pub drop-zeros : (n m : ℕ) → drop n (zeros m) ≡ zeros (m - n)
+unfolding zeros
+drop-zeros zero m = rw sub-zero
+drop-zeros (suc n) zero = rw zero-sub
+drop-zeros (suc n) (suc m) = rw suc-sub-suc (drop-zeros n m)
+
+pub take-zeros : (n m : ℕ) → n ≤ m → take n (zeros m) ≡ zeros n
+unfolding zeros
+take-zeros zero m h = refl
+take-zeros (suc n) zero h = absurd (omega arith)
+take-zeros (suc n) (suc m) h = ap (λ (l : List ℕ). 0 ∷ l) (take-zeros n m (omega arith))
 
 splice-zeros : (c : List ℕ) → splice (zeros slotLength) 0 c ≡ filled c
-unfolding splice zeros
-splice-zeros c = rw (zero-add, drop-replicate (length c) slotLength 0)
+unfolding splice
+splice-zeros c = rw (zero-add, drop-zeros (length c) slotLength)
 
 pub over-zeros : (d r c : List ℕ) → d ≡ zeros slotLength → r ≡ splice d 0 c → r ≡ filled c
 over-zeros d r c p q = q ∙ ap (λ (l : List ℕ). splice l 0 c) p ∙ splice-zeros c
@@ -78,3 +86,17 @@ pub slot-length : (o : ℕ) (k : Key) (v : Value) → length (slotBytes o k v) �
 unfolding slotBytes
 slot-length o k v =
     filled-length ((o ∷ []) ++ (keyBytes k ++ valueBytes v)) (simp (length-append, key-length) (omega (arith, value-length v)))
+
+-- ---- what is written is bytes
+
+pub zeros-bytes : (n : ℕ) → Bytes (zeros n)
+unfolding zeros
+zeros-bytes zero = no-bytes
+zeros-bytes (suc n) = append-bytes (0 ∷ []) (zeros n) (one-byte 0 (lit< tt)) (zeros-bytes n)
+
+pub slot-bytes : (o : ℕ) (k : Key) (v : Value) → o < 256 → Bytes (slotBytes o k v)
+unfolding slotBytes
+slot-bytes o k v h =
+    then (then (one o h) (then (key k) (value v)))
+    (record { bytes = zeros-bytes (slotLength - length ((o ∷ []) ++ (keyBytes k ++ valueBytes v))) })
+    .bytes

@@ -30,6 +30,10 @@ epochLimit = 1000000
 abbrev pub countLimit : ℕ
 countLimit = 1000000
 
+-- the most that the clock of a well-formed state may be
+abbrev pub clockLimit : ℕ
+clockLimit = 1000000000000
+
 -- ---- 1: epoch 1 to 1,000,000, no old epoch at epoch 1, counts at most 1,000,000, clock at most 1,000,000 times (current less 1)
 -- plus the current evict count
 

@@ -9,7 +9,7 @@ use lib.Dec.{leb, ltb, eqb}
 use borrow.Author.Tests.{lt-ltb, leb-true, leb-false, ltb-false, eqb-true, eqb-false}
 use Rattle.words.specs.Numbers.{Bytes}
 use Rattle.words.specs.Splices.{part}
-use Rattle.words.proofs.Laws.{four-back, number-lt, part-one, part-step, picked, true-both}
+use Rattle.words.proofs.Laws.{four-back, number-lt, part-one, part-step, picked, true-both, never}
 use Rattle.key.specs.Keys.{keyAt, keyBytes, wellKey}
 use Rattle.key.specs.declared.Key.{Key}
 use Rattle.key.specs.declared.KeyRead.{KeyRead}
@@ -38,9 +38,6 @@ pub record ValueThere (s : List ℕ) (at : ℕ) (x : Value) (n : ℕ) : Type 0 w
   pub well : wellValue x ≡ true
   pub fits : ValueFits x
   pub within : at + n ≤ length s
-
-never : {A : Type 0} → _≡_ {A = ℕ} 0 1 → A
-never e = absurd (omega arith)
 
 mark-same : (m : ℕ) → m ≤ 1 → markByte (eqb m 1) ≡ m
 mark-same zero h = refl

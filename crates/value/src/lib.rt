@@ -7,10 +7,11 @@ ghost use Rattle.words.specs.Splices.{splice};
 ghost use Rattle.value.specs.Values.{digestAt, digestBytes, digestEq, markByte, linkAt, linkBytes, sideAt, sideEnd, sideBytes, nodeAt, nodeBytes, fingerprintAt, fingerprintBytes, valueAt, valueEnd, valueBytes};
 use key::Key;
 use key::KeyRead;
+use words::Four;
 use words::and;
+use words::four_at;
+use words::put_four;
 use words::put_u8;
-use words::put_word;
-use words::word_at;
 
 // The first byte of each kind of value, and of each kind of side.
 const NONE_TAG: u8 = 0;
@@ -24,7 +25,7 @@ const EMPTY_TAG: u8 = 0;
 const LINK_TAG: u8 = 1;
 
 // A tag alone: the value none, and the empty side.
-const TAG_BYTES: usize = 1;
+pub const TAG_BYTES: usize = 1;
 
 pub const FINGERPRINT_BYTES: usize = 33;
 
@@ -38,7 +39,9 @@ const LINK_DIGEST: usize = 35;
 
 const LINK_MARK: usize = 67;
 
-// The widest mark.
+// A link's mark, 0 or 1.
+const UNMARKED: u8 = 0;
+
 const MARKED: u8 = 1;
 
 // 32 bytes, as four words.
@@ -87,11 +90,12 @@ impl Digest {
         requires { ⌜ at + 32 ≤ length (now s) ⌝ }
         ensures { λ r. ⌜ r ≡ digestAt (now (s .entry)) at ⌝ }
     {
+        let x = four_at(s, at);
         Digest {
-            d0: word_at(s, at),
-            d1: word_at(s, at + 8),
-            d2: word_at(s, at + 16),
-            d3: word_at(s, at + 24),
+            d0: x.first,
+            d1: x.second,
+            d2: x.third,
+            d3: x.fourth,
         }
     }
 
@@ -100,10 +104,13 @@ impl Digest {
         requires { ⌜ at + 32 ≤ length (now s) ⌝ }
         ensures { λ _. ⌜ now (s .exit) ≡ splice (now (s .entry)) at (digestBytes self) ⌝ }
     {
-        put_word(s, at, self.d0);
-        put_word(s, at + 8, self.d1);
-        put_word(s, at + 16, self.d2);
-        put_word(s, at + 24, self.d3);
+        let x = Four {
+            first: self.d0,
+            second: self.d1,
+            third: self.d2,
+            fourth: self.d3,
+        };
+        put_four(s, at, x);
     }
 
     pub fn same(self, o: Digest) -> bool
@@ -117,7 +124,7 @@ impl Digest {
 fn mark_byte(m: bool) -> u8
     ensures { λ r. ⌜ r ≡ markByte m ⌝ }
 {
-    if m { 1 } else { 0 }
+    if m { MARKED } else { UNMARKED }
 }
 
 // A link, whose tag has been looked at. Inner.

@@ -12,7 +12,7 @@ use lib.Arith.{mod-mul, digits-lt, digits-div, digits-mod}
 use lib.ListN.{length, getD, take, drop, set, replicate, length-append, length-take, length-drop, length-replicate, take-append-drop, List·getD-append, List·getD-eq-default}
 use lib.Seq.{take-append-seam, drop-append-add, drop-drop, set-split, getD-at, getD-append-add, getD-drop, take-suc, take-at, length-take-le, take-add, getD-take}
 use Rattle.words.specs.Choice.{pick, both}
-use Rattle.words.specs.Numbers.{numberAt, bytesOf, zeros, Bytes}
+use Rattle.words.specs.Numbers.{numberAt, bytesOf, fourWords, zeros, Bytes}
 use Rattle.words.specs.Splices.{splice, part}
 
 -- ---- numbers
@@ -213,9 +213,7 @@ number-at n x at p r e h =
 pub part-join : (s : List ℕ) (at m to n : ℕ) → at + m ≡ to → part s at m ++ part s to n ≡ part s at (m + n)
 part-join s at m to n e = rw (← e, take-add m n (drop at s), drop-drop)
 
--- four words side by side, as a data key and a digest have them
-abbrev pub fourWords : ℕ → ℕ → ℕ → ℕ → List ℕ
-fourWords a b c d = bytesOf 8 a ++ (bytesOf 8 b ++ (bytesOf 8 c ++ bytesOf 8 d))
+-- ---- four words side by side
 
 pub four-length : (a b c d : ℕ) → length (fourWords a b c d) ≡ 32
 four-length a b c d = simp (length-append, bytes-length)
@@ -262,6 +260,10 @@ pub part-step : (s : List ℕ) (at m to n k : ℕ) (x y : List ℕ) → x ≡ pa
 part-step s at m to n k x y p q e f = rw (p, q) (part-join s at m to n e ∙ ap (part s at) f)
 
 -- ---- choices
+
+-- two numbers that differ, found equal
+pub never : {A : Type 0} → _≡_ {A = ℕ} 0 1 → A
+never e = absurd (omega arith)
 
 -- what a choice came to, by its test
 pub picked : {A C : Type 0} (b : Bool) (x y z : A) → pick b x y ≡ z → (b ≡ true → x ≡ z → C) → (b ≡ false → y ≡ z → C) → C

@@ -5,8 +5,23 @@ ghost use mathlib.Core.List.{[], _∷_};
 ghost use Prim.Native.Nat.{ℕ, _+_, _-_, _^_, _≤_, _<_};
 ghost use lib.ListN.{length};
 ghost use Rattle.words.specs.Choice.{both, no};
-ghost use Rattle.words.specs.Numbers.{numberAt, bytesOf};
+ghost use Rattle.words.specs.Numbers.{numberAt, bytesOf, fourAt, fourWords};
 ghost use Rattle.words.specs.Splices.{splice};
+
+// Where the words of four side by side stand.
+const SECOND_WORD: usize = 8;
+
+const THIRD_WORD: usize = 16;
+
+const FOURTH_WORD: usize = 24;
+
+// Four words side by side, as a data key and a digest have them.
+pub struct Four {
+    pub first: u64,
+    pub second: u64,
+    pub third: u64,
+    pub fourth: u64,
+}
 
 pub fn wide(x: u8) -> u64
     ensures { λ r. ⌜ (r ≡ x) × (r < 256) ⌝ }
@@ -36,6 +51,19 @@ pub fn word_at(s: &[u8], at: usize) -> u64
     ensures { λ r. ⌜ r ≡ numberAt 8 (now (s .entry)) at ⌝ }
 {
     quad_at(s, at) * 4294967296 + quad_at(s, at + 4)
+}
+
+// Thirty-two bytes. Inner.
+pub fn four_at(s: &[u8], at: usize) -> Four
+    requires { ⌜ at + 32 ≤ length (now s) ⌝ }
+    ensures { λ r. ⌜ r ≡ fourAt (now (s .entry)) at ⌝ }
+{
+    Four {
+        first: word_at(s, at),
+        second: word_at(s, at + SECOND_WORD),
+        third: word_at(s, at + THIRD_WORD),
+        fourth: word_at(s, at + FOURTH_WORD),
+    }
 }
 
 // Both tests, with no branch for a proof to follow.
@@ -104,4 +132,15 @@ pub fn put_bytes(out: &mut [u8], at: usize, src: &[u8]) -> usize
         i += 1;
     }
     at + i
+}
+
+// Thirty-two bytes. Inner.
+pub fn put_four(s: &mut [u8], at: usize, x: Four)
+    requires { ⌜ at + 32 ≤ length (now s) ⌝ }
+    ensures { λ _. ⌜ now (s .exit) ≡ splice (now (s .entry)) at (fourWords (x .first) (x .second) (x .third) (x .fourth)) ⌝ }
+{
+    put_word(s, at, x.first);
+    put_word(s, at + SECOND_WORD, x.second);
+    put_word(s, at + THIRD_WORD, x.third);
+    put_word(s, at + FOURTH_WORD, x.fourth);
 }

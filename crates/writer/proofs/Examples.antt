@@ -1,12 +1,10 @@
 -- Entries of document 01's listing, written and computed.
 use mathlib.Core.Path.{_≡_, refl}
-use mathlib.Core.List.{List, [], _∷_, _++_}
-use mathlib.Core.Bool.{Bool, true, false}
-use Prim.Native.Nat.{ℕ}
+use mathlib.Core.List.{[], _∷_}
 use Rattle.words.specs.Numbers.{bytesOf, zeros}
 use Rattle.words.specs.Splices.{splice}
 use Rattle.key.specs.Keys.{dataKey, dataBytes, rootKey}
-use Rattle.value.specs.Values.{valueBytes, wellValue}
+use Rattle.value.specs.Values.{wellValue}
 use Rattle.value.specs.declared.Value.the-variants as v
 use Rattle.verdict.specs.Verdicts.{accepted, malformed, noRoom}
 use Rattle.entry.specs.Entries.{entryTag, entryBody, entryBytes, wellEntry}

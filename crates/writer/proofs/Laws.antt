@@ -1,20 +1,19 @@
 -- How long the bytes of entries are, and what their stores make. Assumes nothing.
 use Prim.Native.Nat.{ℕ, _+_, _≤_, _<_}
-use mathlib.Core.Bool.{Bool, true, false}
-use mathlib.Core.Path.{_≡_, refl, ap, sym, _∙_}
-use mathlib.Core.List.{List, [], _∷_, _++_}
+use mathlib.Core.Bool.{true, false}
+use mathlib.Core.Path.{_≡_, refl}
+use mathlib.Core.List.{List, []}
 use native.Mathlib.Nat.{add-zero}
 use native.Mathlib.Omega.{arith}
 use lib.ListN.{length, length-append, take-append-drop}
 use borrow.Author.Tests.{lt-ltb, le-ltb}
 use Rattle.words.specs.Splices.{splice}
-use Rattle.words.specs.Numbers.{bytesOf}
 use Rattle.words.proofs.Laws.{bytes-length}
 use Rattle.key.proofs.Laws.{key-length, data-length}
 use Rattle.value.specs.Values.{valueBytes}
 use Rattle.value.proofs.Laws.{value-length}
 use Rattle.verdict.specs.Verdicts.{accepted, malformed, noRoom}
-use Rattle.entry.specs.Entries.{entryTag, entryBody, entryBytes, wellEntry}
+use Rattle.entry.specs.Entries.{entryBody, entryBytes, wellEntry}
 use Rattle.entry.specs.declared.Entry.{Entry}
 use Rattle.writer.specs.Writings.{writing, unwritten, writeEntry}
 use Rattle.entry.specs.declared.Entry.the-variants.{AddTree, AddDeferred, EvictTree, EvictDeferred, EvictTreeDeferred, Get, Absent, Put, Advance, Close}

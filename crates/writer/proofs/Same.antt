@@ -1,18 +1,18 @@
 -- What is read as an entry is written as the same bytes, so no two byte strings mean one entry. Assumes nothing.
 use Prim.Native.Nat.{ℕ, _+_, _-_, _^_, _≤_, _<_}
-use mathlib.Core.Path.{_≡_, refl, ap, sym, _∙_}
+use mathlib.Core.Path.{_≡_, refl, sym, _∙_}
 use mathlib.Core.List.{List, [], _∷_, _++_}
-use mathlib.Core.Bool.{Bool, true, false, true≢false}
+use mathlib.Core.Bool.{true, false, true≢false}
 use native.Mathlib.Omega.{arith}
-use lib.ListN.{length, getD, take, drop, length-take, length-drop}
+use lib.ListN.{length, getD, take, length-take, length-drop}
 use lib.Seq.{take-length}
 use lib.Dec.{ltb, eqb}
 use borrow.Author.Tests.{ltb-false, eqb-true}
 use Rattle.words.specs.Choice.{both}
 use Rattle.words.specs.Numbers.{numberAt, bytesOf, Bytes}
 use Rattle.words.specs.Splices.{part}
-use Rattle.words.proofs.Laws.{number-lt, bytes-back, part-one, part-step, part-bytes, picked, true-both}
-use Rattle.key.specs.Keys.{keyAt, keyBytes, dataAt, dataBytes, wellKey, isData, KeyFits}
+use Rattle.words.proofs.Laws.{number-lt, bytes-back, part-one, part-step, part-bytes, picked, true-both, never}
+use Rattle.key.specs.Keys.{keyAt, dataAt, dataBytes, wellKey, isData, KeyFits}
 use Rattle.key.specs.declared.Key.{Key}
 use Rattle.key.specs.declared.KeyRead.{KeyRead}
 use Rattle.key.specs.declared.KeyRead.the-variants as kr
@@ -24,16 +24,13 @@ use Rattle.value.specs.declared.ValueRead.the-variants as vr
 use Rattle.value.proofs.Same.{ValueThere, value-same}
 use Rattle.entry.specs.Entries.{endsWith, addTreeKey, addTreeAt, addDeferredKey, addDeferredAt, pairOfSlots, evictDeferredAt, recordAt, absentAt, emptyAt, entryOf, headOf, readBy, readingOf, readEntry, entryTag, entryBody, entryBytes, wellEntry}
 use Rattle.entry.specs.declared.Entry.{Entry}
-use Rattle.entry.specs.declared.Entry.the-variants.{AddTree, AddDeferred, EvictTree, EvictDeferred, EvictTreeDeferred, Get, Absent, Put, Advance, Close}
+use Rattle.entry.specs.declared.Entry.the-variants.{AddTree, AddDeferred, EvictTree, EvictTreeDeferred, Get, Put, Advance, Close}
 use Rattle.entry.specs.declared.EntryRead.{EntryRead}
 use Rattle.entry.specs.declared.EntryRead.the-variants.{Good, Bad}
 use Rattle.entry.specs.declared.Head.{Head}
 use Rattle.entry.specs.declared.Head.the-variants.{Cut, Whole}
 use Rattle.entry.specs.declared.Reading.the-variants as reading
 use Rattle.writer.specs.Writings.{EntryFits}
-
-never : {A : Type 0} → _≡_ {A = ℕ} 0 1 → A
-never e = absurd (omega arith)
 
 -- ---- the bodies
 

@@ -1,16 +1,11 @@
+use mathlib.Core.Path.{_≡_, refl, _∙_}
+use Prim.Native.Nat.{_≤_, _-_}
+use native.Mathlib.Omega.{arith}
+use borrow.Author.Needs.{needs}
 use Rattle.aes.specs.Aes.{rounds}
 use Rattle.aes.proofs.Laws.{more-rounds, cipher-is}
-use native.Mathlib.Omega.{arith}
-use Prim.Native.Nat.{_≤_, _-_}
-use mathlib.Core.Path.{_≡_, refl, _∙_}
-use borrow.Author.Needs.{needs}
 use Rattle.aes.proofs.encrypt_block.Statement.{statement}
 use Rattle.aes.proofs.encrypt_block.Tie as tie
-use Rattle.aes.proofs.encrypt_block.Reads as reads
-use Rattle.aes.proofs.encrypt_block.Lts as lts
-use Rattle.aes.proofs.first_key_added.Reads as first-key-added-reads
-use Rattle.aes.proofs.last_round.Reads as last-round-reads
-use Rattle.aes.proofs.one_round.Reads as one-round-reads
 
 abbrev Inv-loop : tie.InvT-loop
 Inv-loop t k x₀ n₀ x n = (n ≤ 9) × (x ≡ rounds k n x₀)
@@ -18,36 +13,28 @@ Inv-loop t k x₀ n₀ x n = (n ≤ 9) × (x ≡ rounds k n x₀)
 abbrev μ-loop : tie.MeasureT-loop
 μ-loop t k x₀ n₀ x n = 9 - n
 
--- src/lib.rt:376:9
 first-key-added-requires : tie.Need-first-key-added-requires Inv-loop μ-loop
 first-key-added-requires c κs = search needs
 
--- src/lib.rt:378:5
 loop-holds : tie.Need-loop-holds Inv-loop μ-loop
 unfolding rounds
 loop-holds c = (search needs, refl)
 
--- src/lib.rt:379:9
 add-n : tie.Need-add-n Inv-loop μ-loop
 add-n c = search needs
 
--- src/lib.rt:380:9
 one-round-requires : tie.Need-one-round-requires Inv-loop μ-loop
 one-round-requires c κs = search needs
 
--- src/lib.rt:378:5
 loop-less : tie.Need-loop-less Inv-loop μ-loop
 loop-less c = search needs
 
--- src/lib.rt:378:5
 loop-again : tie.Need-loop-again Inv-loop μ-loop
 loop-again c = let l = c .before .before .loop in (search needs, c .one-round .ensures ∙ more-rounds _ _ (l .x) (l .n) (l .inv .1))
 
--- src/lib.rt:382:5
 last-round-requires : tie.Need-last-round-requires Inv-loop μ-loop
 last-round-requires c κs = search needs
 
--- src/lib.rt:372:1
 returns : tie.Need-returns Inv-loop μ-loop
 returns c = let l = c .before .before .loop in let e : l .n ≡ 9 = omega arith in cipher-is _ _ _ (l .x) _ (l .n) (c .before .before .before .first-key-added .ensures) (l .inv .1) e (c .last-round .ensures)
 

@@ -1,28 +1,21 @@
-use Rattle.aes.specs.Aes.{addRoundKey}
 use mathlib.Core.Path.{refl}
 use borrow.Author.Needs.{needs}
+use Rattle.aes.specs.Aes.{addRoundKey}
 use Rattle.aes.proofs.first_key_added.Statement.{statement}
 use Rattle.aes.proofs.first_key_added.Tie as tie
-use Rattle.aes.proofs.first_key_added.Reads as reads
-use Rattle.aes.proofs.first_key_added.Lts as lts
 
--- src/lib.rt:364:20
 element-copy-out-t5 : tie.Need-element-copy-out-t5
 element-copy-out-t5 c = search needs
 
--- src/lib.rt:365:20
 element-copy-out-t9 : tie.Need-element-copy-out-t9
 element-copy-out-t9 c = search needs
 
--- src/lib.rt:366:20
 element-copy-out-t13 : tie.Need-element-copy-out-t13
 element-copy-out-t13 c = search needs
 
--- src/lib.rt:367:20
 element-copy-out-t17 : tie.Need-element-copy-out-t17
 element-copy-out-t17 c = search needs
 
--- src/lib.rt:360:1
 returns : tie.Need-returns
 unfolding addRoundKey
 returns c = refl

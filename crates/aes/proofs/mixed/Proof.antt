@@ -1,59 +1,44 @@
-use Rattle.aes.proofs.Laws.{mixed-is}
 use borrow.Author.Needs.{needs}
+use Rattle.aes.proofs.Laws.{mixed-is}
 use Rattle.aes.proofs.mixed.Statement.{statement}
 use Rattle.aes.proofs.mixed.Tie as tie
-use Rattle.aes.proofs.mixed.Reads as reads
-use Rattle.aes.proofs.mixed.Lts as lts
 
--- src/lib.rt:307:15
 cast-a : tie.Need-cast-a
 cast-a c = search needs
 
--- src/lib.rt:307:13
 mul-a : tie.Need-mul-a
 mul-a c = search needs
 
--- src/lib.rt:307:13
 element-copy-out-a : tie.Need-element-copy-out-a
 element-copy-out-a c = search needs
 
--- src/lib.rt:308:15
 cast-b : tie.Need-cast-b
 cast-b c = search needs
 
--- src/lib.rt:308:13
 mul-b : tie.Need-mul-b
 mul-b c = search needs
 
--- src/lib.rt:308:13
 element-copy-out-b : tie.Need-element-copy-out-b
 element-copy-out-b c = search needs
 
--- src/lib.rt:309:15
 cast-c : tie.Need-cast-c
 cast-c c = search needs
 
--- src/lib.rt:309:13
 mul-c : tie.Need-mul-c
 mul-c c = search needs
 
--- src/lib.rt:309:13
 element-copy-out-c : tie.Need-element-copy-out-c
 element-copy-out-c c = search needs
 
--- src/lib.rt:310:15
 cast-d : tie.Need-cast-d
 cast-d c = search needs
 
--- src/lib.rt:310:13
 mul-d : tie.Need-mul-d
 mul-d c = search needs
 
--- src/lib.rt:310:13
 element-copy-out-d : tie.Need-element-copy-out-d
 element-copy-out-d c = search needs
 
--- src/lib.rt:303:1
 returns : tie.Need-returns
 returns c = mixed-is _ (c .before .before .before .before .args .w) (c .before .before .before .before .args .x) (c .before .before .before .before .args .y) (c .before .before .before .before .args .z) (c .before .before .before .before .pre) (c .before .before .before .before .args .k)
 

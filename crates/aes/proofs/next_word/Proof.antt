@@ -1,51 +1,35 @@
-use Rattle.aes.proofs.Laws.{next-sub, next-plain}
 use borrow.Author.Needs.{needs}
+use Rattle.aes.proofs.Laws.{next-sub, next-plain}
 use Rattle.aes.proofs.next_word.Statement.{statement}
 use Rattle.aes.proofs.next_word.Tie as tie
-use Rattle.aes.proofs.next_word.Reads as reads
-use Rattle.aes.proofs.next_word.Lts as lts
-use Rattle.aes.proofs.load.Reads as load-reads
-use Rattle.aes.proofs.rotated.Reads as rotated-reads
-use Rattle.aes.proofs.round_constant.Reads as round-constant-reads
-use Rattle.aes.proofs.substituted.Reads as substituted-reads
 
--- src/lib.rt:422:21
 mul-load : tie.Need-mul-load
 mul-load c = search needs
 
--- src/lib.rt:422:9
 load-requires : tie.Need-load-requires
 load-requires c κs = search needs
 
--- src/lib.rt:423:26
 add-load : tie.Need-add-load
 add-load c = search needs
 
--- src/lib.rt:423:21
 mul-load-2 : tie.Need-mul-load-2
 mul-load-2 c = search needs
 
--- src/lib.rt:423:9
 load-requires-2 : tie.Need-load-requires-2
 load-requires-2 c κs = search needs
 
--- src/lib.rt:425:13
 rotated-requires : tie.Need-rotated-requires
 rotated-requires c κs = search needs
 
--- src/lib.rt:426:14
 substituted-requires : tie.Need-substituted-requires
 substituted-requires c κs = search needs
 
--- src/lib.rt:426:43
 round-constant-requires : tie.Need-round-constant-requires
 round-constant-requires c κs = search needs
 
--- src/lib.rt:418:1
 returns : tie.Need-returns
 returns c = next-sub (c .before .before .before .before .before .before .before .before .args .b .now) (c .before .before .before .before .before .before .before .before .args .j) _ _ (c .before .before .before .before .before .before .load .ensures) (c .before .before .before .before .load2 .ensures) _ _ _ (c .before .before .before .if1 .taken) (c .before .before .rotated .ensures) (c .before .substituted .ensures) (c .round-constant .ensures)
 
--- src/lib.rt:418:1
 returns-2 : tie.Need-returns-2
 returns-2 c = next-plain (c .before .before .before .before .before .args .b .now) (c .before .before .before .before .before .args .j) _ _ (c .before .before .before .load .ensures) (c .before .load2 .ensures) (c .if1 .left)
 

@@ -1,89 +1,66 @@
+use borrow.Author.Needs.{needs}
 use Rattle.aes.specs.Aes.{round, addRoundKey, mixColumns, shiftRows, subBytes, column}
 use Rattle.aes.proofs.Laws.{same}
-use borrow.Author.Needs.{needs}
 use Rattle.aes.proofs.one_round.Statement.{statement}
 use Rattle.aes.proofs.one_round.Tie as tie
-use Rattle.aes.proofs.one_round.Reads as reads
-use Rattle.aes.proofs.one_round.Lts as lts
-use Rattle.aes.proofs.mixed.Reads as mixed-reads
 
--- src/lib.rt:340:48
 mul-mixed : tie.Need-mul-mixed
 mul-mixed c = search needs
 
--- src/lib.rt:340:46
 mul-mixed-2 : tie.Need-mul-mixed-2
 mul-mixed-2 c = search needs
 
--- src/lib.rt:340:46
 element-copy-out-mixed : tie.Need-element-copy-out-mixed
 element-copy-out-mixed c = search needs
 
--- src/lib.rt:340:13
 mixed-requires : tie.Need-mixed-requires
 mixed-requires c κs = search needs
 
--- src/lib.rt:341:48
 mul-mixed-3 : tie.Need-mul-mixed-3
 mul-mixed-3 c = search needs
 
--- src/lib.rt:341:48
 add-mixed : tie.Need-add-mixed
 add-mixed c = search needs
 
--- src/lib.rt:341:46
 mul-mixed-4 : tie.Need-mul-mixed-4
 mul-mixed-4 c = search needs
 
--- src/lib.rt:341:46
 element-copy-out-mixed-2 : tie.Need-element-copy-out-mixed-2
 element-copy-out-mixed-2 c = search needs
 
--- src/lib.rt:341:13
 mixed-requires-2 : tie.Need-mixed-requires-2
 mixed-requires-2 c κs = search needs
 
--- src/lib.rt:342:48
 mul-mixed-5 : tie.Need-mul-mixed-5
 mul-mixed-5 c = search needs
 
--- src/lib.rt:342:48
 add-mixed-2 : tie.Need-add-mixed-2
 add-mixed-2 c = search needs
 
--- src/lib.rt:342:46
 mul-mixed-6 : tie.Need-mul-mixed-6
 mul-mixed-6 c = search needs
 
--- src/lib.rt:342:46
 element-copy-out-mixed-3 : tie.Need-element-copy-out-mixed-3
 element-copy-out-mixed-3 c = search needs
 
--- src/lib.rt:342:13
 mixed-requires-3 : tie.Need-mixed-requires-3
 mixed-requires-3 c κs = search needs
 
--- src/lib.rt:343:48
 mul-mixed-7 : tie.Need-mul-mixed-7
 mul-mixed-7 c = search needs
 
--- src/lib.rt:343:48
 add-mixed-3 : tie.Need-add-mixed-3
 add-mixed-3 c = search needs
 
--- src/lib.rt:343:46
 mul-mixed-8 : tie.Need-mul-mixed-8
 mul-mixed-8 c = search needs
 
--- src/lib.rt:343:46
 element-copy-out-mixed-4 : tie.Need-element-copy-out-mixed-4
 element-copy-out-mixed-4 c = search needs
 
--- src/lib.rt:343:13
 mixed-requires-4 : tie.Need-mixed-requires-4
 mixed-requires-4 c κs = search needs
 
--- src/lib.rt:335:1
 returns : tie.Need-returns
 unfolding round addRoundKey mixColumns shiftRows subBytes column
 returns c = same (c .before .before .before .before .before .before .mixed .ensures) (c .before .before .before .before .mixed2 .ensures) (c .before .before .mixed3 .ensures) (c .mixed4 .ensures)

@@ -1,63 +1,51 @@
 use mathlib.Core.Path.{_≡_, ap, sym}
 use Prim.Native.Nat.{ℕ, _≤_, _<_}
 use native.Mathlib.Omega.{arith}
-use Rattle.aes.proofs.Laws.{past}
-use Rattle.aes.specs.Field.{xtime}
 use Rattle.aes.specs.Aes.{power, rcon}
+use Rattle.aes.specs.Field.{xtime}
+use Rattle.aes.proofs.Laws.{past}
 use Rattle.aes.proofs.round_constant.Statement.{statement}
 use Rattle.aes.proofs.round_constant.Tie as tie
-use Rattle.aes.proofs.round_constant.Reads as reads
-use Rattle.aes.proofs.round_constant.Lts as lts
 
 nine : (i : ℕ) → 9 ≤ i → i < 10 → i ≡ 9
 nine i h k = omega arith
 
--- src/lib.rt:393:1
 returns : tie.Need-returns
 unfolding power xtime
 returns c = ap rcon (sym (c .match .keys1))
 
--- src/lib.rt:393:1
 returns-2 : tie.Need-returns-2
 unfolding power xtime
 returns-2 c = ap rcon (sym (c .match .keys2))
 
--- src/lib.rt:393:1
 returns-3 : tie.Need-returns-3
 unfolding power xtime
 returns-3 c = ap rcon (sym (c .match .keys3))
 
--- src/lib.rt:393:1
 returns-4 : tie.Need-returns-4
 unfolding power xtime
 returns-4 c = ap rcon (sym (c .match .keys4))
 
--- src/lib.rt:393:1
 returns-5 : tie.Need-returns-5
 unfolding power xtime
 returns-5 c = ap rcon (sym (c .match .keys5))
 
--- src/lib.rt:393:1
 returns-6 : tie.Need-returns-6
 unfolding power xtime
 returns-6 c = ap rcon (sym (c .match .keys6))
 
--- src/lib.rt:393:1
 returns-7 : tie.Need-returns-7
 unfolding power xtime
 returns-7 c = ap rcon (sym (c .match .keys7))
 
--- src/lib.rt:393:1
 returns-8 : tie.Need-returns-8
 unfolding power xtime
 returns-8 c = ap rcon (sym (c .match .keys8))
 
--- src/lib.rt:393:1
 returns-9 : tie.Need-returns-9
 unfolding power xtime
 returns-9 c = ap rcon (sym (c .match .keys9))
 
--- src/lib.rt:393:1
 returns-10 : tie.Need-returns-10
 unfolding power xtime
 returns-10 c =

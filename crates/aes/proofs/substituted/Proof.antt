@@ -1,83 +1,62 @@
-use Rattle.aes.proofs.Laws.{substituted-is}
 use borrow.Author.Needs.{needs}
+use Rattle.aes.proofs.Laws.{substituted-is}
 use Rattle.aes.proofs.substituted.Statement.{statement}
 use Rattle.aes.proofs.substituted.Tie as tie
-use Rattle.aes.proofs.substituted.Reads as reads
-use Rattle.aes.proofs.substituted.Lts as lts
 
--- src/lib.rt:319:15
 cast-a : tie.Need-cast-a
 cast-a c = search needs
 
--- src/lib.rt:319:13
 mul-a : tie.Need-mul-a
 mul-a c = search needs
 
--- src/lib.rt:319:13
 element-copy-out-a : tie.Need-element-copy-out-a
 element-copy-out-a c = search needs
 
--- src/lib.rt:320:15
 cast-b : tie.Need-cast-b
 cast-b c = search needs
 
--- src/lib.rt:320:13
 mul-b : tie.Need-mul-b
 mul-b c = search needs
 
--- src/lib.rt:320:13
 element-copy-out-b : tie.Need-element-copy-out-b
 element-copy-out-b c = search needs
 
--- src/lib.rt:321:15
 cast-c : tie.Need-cast-c
 cast-c c = search needs
 
--- src/lib.rt:321:13
 mul-c : tie.Need-mul-c
 mul-c c = search needs
 
--- src/lib.rt:321:13
 element-copy-out-c : tie.Need-element-copy-out-c
 element-copy-out-c c = search needs
 
--- src/lib.rt:322:15
 cast-d : tie.Need-cast-d
 cast-d c = search needs
 
--- src/lib.rt:322:13
 mul-d : tie.Need-mul-d
 mul-d c = search needs
 
--- src/lib.rt:322:13
 element-copy-out-d : tie.Need-element-copy-out-d
 element-copy-out-d c = search needs
 
--- src/lib.rt:323:7
 mul-result : tie.Need-mul-result
 mul-result c = search needs
 
--- src/lib.rt:323:7
 add-result : tie.Need-add-result
 add-result c = search needs
 
--- src/lib.rt:323:6
 mul-result-2 : tie.Need-mul-result-2
 mul-result-2 c = search needs
 
--- src/lib.rt:323:6
 add-result-2 : tie.Need-add-result-2
 add-result-2 c = search needs
 
--- src/lib.rt:323:5
 mul-result-3 : tie.Need-mul-result-3
 mul-result-3 c = search needs
 
--- src/lib.rt:323:5
 add-result-3 : tie.Need-add-result-3
 add-result-3 c = search needs
 
--- src/lib.rt:315:1
 returns : tie.Need-returns
 returns c = substituted-is _ (c .before .before .before .before .args .w) (c .before .before .before .before .args .x) (c .before .before .before .before .args .y) (c .before .before .before .before .args .z) (c .before .before .before .before .pre)
 

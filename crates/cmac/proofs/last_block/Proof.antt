@@ -1,52 +1,35 @@
-use Rattle.cmac.proofs.Laws.{last-whole, last-filled}
 use borrow.Author.Needs.{needs}
+use Rattle.cmac.proofs.Laws.{last-whole, last-filled}
 use Rattle.cmac.proofs.last_block.Statement.{statement}
 use Rattle.cmac.proofs.last_block.Tie as tie
-use Rattle.cmac.proofs.last_block.Reads as reads
-use Rattle.cmac.proofs.last_block.Lts as lts
-use Rattle.aes.proofs.block_at.Reads as block-at-reads
-use Rattle.cmac.proofs.doubled.Reads as doubled-reads
-use Rattle.cmac.proofs.filled.Reads as filled-reads
-use Rattle.cmac.proofs.subkey.Reads as subkey-reads
-use Rattle.cmac.proofs.xored.Reads as xored-reads
 
--- src/lib.rt:127:9
 subkey-requires : tie.Need-subkey-requires
 subkey-requires c κs = search needs
 
--- src/lib.rt:129:15
 block-at-requires : tie.Need-block-at-requires
 block-at-requires c κs = search needs
 
--- src/lib.rt:129:9
 xored-requires : tie.Need-xored-requires
 xored-requires c κs = search needs
 
--- src/lib.rt:131:17
 filled-requires : tie.Need-filled-requires
 filled-requires c κs = search needs
 
--- src/lib.rt:132:29
 slice-aggregate-block-at : tie.Need-slice-aggregate-block-at
 slice-aggregate-block-at c = search needs
 
--- src/lib.rt:132:15
 block-at-requires-2 : tie.Need-block-at-requires-2
 block-at-requires-2 c κs = search needs
 
--- src/lib.rt:132:37
 doubled-requires : tie.Need-doubled-requires
 doubled-requires c κs = search needs
 
--- src/lib.rt:132:9
 xored-requires-2 : tie.Need-xored-requires-2
 xored-requires-2 c κs = search needs
 
--- src/lib.rt:123:1
 returns : tie.Need-returns
 returns c = last-whole _ _ _ (c .before .before .before .subkey .ensures) _ _ (c .before .before .if1 .taken) (c .before .block-at .ensures) (c .xored .ensures)
 
--- src/lib.rt:123:1
 returns-2 : tie.Need-returns-2
 returns-2 c = last-filled _ _ _ (c .before .before .before .before .before .before .subkey .ensures) _ _ _ _ (c .before .before .before .before .before .if1 .left) (c .before .before .before .before .filled .ensures) (c .before .before .block-at2 .ensures) (c .before .doubled .ensures) (c .xored2 .ensures)
 

@@ -1,52 +1,35 @@
-use Rattle.cmac.proofs.Laws.{mac-is}
 use borrow.Author.Needs.{needs}
+use Rattle.cmac.proofs.Laws.{mac-is}
 use Rattle.cmac.proofs.mac_block.Statement.{statement}
 use Rattle.cmac.proofs.mac_block.Tie as tie
-use Rattle.cmac.proofs.mac_block.Reads as reads
-use Rattle.cmac.proofs.mac_block.Lts as lts
-use Rattle.aes.proofs.encrypt_block.Reads as encrypt-block-reads
-use Rattle.cmac.proofs.before_last.Reads as before-last-reads
-use Rattle.cmac.proofs.chained.Reads as chained-reads
-use Rattle.cmac.proofs.last_block.Reads as last-block-reads
-use Rattle.cmac.proofs.xored.Reads as xored-reads
 
--- src/lib.rt:141:9
 before-last-requires : tie.Need-before-last-requires
 before-last-requires c κs = search needs
 
--- src/lib.rt:142:14
 mul-at : tie.Need-mul-at
 mul-at c = search needs
 
--- src/lib.rt:143:9
 chained-requires : tie.Need-chained-requires
 chained-requires c κs = search needs
 
--- src/lib.rt:144:30
 sub-last-block : tie.Need-sub-last-block
 sub-last-block c = search needs
 
--- src/lib.rt:144:30
 part-last-block-start : tie.Need-part-last-block-start
 part-last-block-start c = search needs
 
--- src/lib.rt:144:30
 part-last-block-end : tie.Need-part-last-block-end
 part-last-block-end c = search needs
 
--- src/lib.rt:144:9
 last-block-requires : tie.Need-last-block-requires
 last-block-requires c κs = search needs
 
--- src/lib.rt:145:30
 xored-requires : tie.Need-xored-requires
 xored-requires c κs = search needs
 
--- src/lib.rt:145:5
 encrypt-block-requires : tie.Need-encrypt-block-requires
 encrypt-block-requires c κs = search needs
 
--- src/lib.rt:137:1
 returns : tie.Need-returns
 returns c = mac-is _ _ (c .before .before .before .before .before .before-last .result) _ _ _ _ (c .before .before .before .before .before .before-last .ensures) (c .before .before .before .before .chained .ensures) (c .before .before .last-block .ensures) (c .before .xored .ensures) (c .encrypt-block .ensures)
 

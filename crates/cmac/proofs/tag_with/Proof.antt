@@ -1,22 +1,16 @@
-use Rattle.cmac.proofs.Laws.{tag-refused, tag-given}
-use Rattle.words.specs.Numbers.{zeros}
 use borrow.Author.Needs.{needs}
+use Rattle.words.specs.Numbers.{zeros}
+use Rattle.cmac.proofs.Laws.{tag-refused, tag-given}
 use Rattle.cmac.proofs.tag_with.Statement.{statement}
 use Rattle.cmac.proofs.tag_with.Tie as tie
-use Rattle.cmac.proofs.tag_with.Reads as reads
-use Rattle.cmac.proofs.tag_with.Lts as lts
-use Rattle.cmac.proofs.mac_bytes.Reads as mac-bytes-reads
 
--- src/lib.rt:189:9
 returns : tie.Need-returns
 unfolding zeros
 returns c = tag-refused _ _ (c .if1 .taken)
 
--- src/lib.rt:194:9
 mac-bytes-requires : tie.Need-mac-bytes-requires
 mac-bytes-requires c κs = search needs
 
--- src/lib.rt:185:1
 returns-2 : tie.Need-returns-2
 returns-2 c = tag-given _ _ _ (c .before .if1 .left) (c .mac-bytes .ensures)
 

@@ -1,23 +1,17 @@
-use Rattle.aes.specs.Aes.{blockBytes}
 use mathlib.Core.Path.{ap₂, sym, _∙_}
-use Rattle.cmac.proofs.Tags.{tag}
-use Rattle.cmac.proofs.Laws.{high-word, low-word}
 use borrow.Author.Needs.{needs}
+use Rattle.aes.specs.Aes.{blockBytes}
+use Rattle.cmac.proofs.Laws.{high-word, low-word}
+use Rattle.cmac.proofs.Tags.{tag}
 use Rattle.cmac.proofs.tag_words.Statement.{statement}
 use Rattle.cmac.proofs.tag_words.Tie as tie
-use Rattle.cmac.proofs.tag_words.Reads as reads
-use Rattle.cmac.proofs.tag_words.Lts as lts
-use Rattle.cmac.proofs.joined.Reads as joined-reads
 
--- src/lib.rt:159:13
 joined-requires : tie.Need-joined-requires
 joined-requires c κs = search needs
 
--- src/lib.rt:160:13
 joined-requires-2 : tie.Need-joined-requires-2
 joined-requires-2 c κs = search needs
 
--- src/lib.rt:155:1
 returns : tie.Need-returns
 unfolding blockBytes
 returns c = let j = c .before .joined .ensures in let k = c .joined2 .ensures in ap₂ tag (j .0 ∙ sym (high-word _ _ _ _ (j .1) (j .2) (k .1) (k .2))) (k .0 ∙ sym (low-word _ _ _ _ (j .1) (j .2) (k .1) (k .2)))

@@ -74,11 +74,11 @@ enum-told-5 c = search needs
 
 returns : tie.Need-returns
 unfolding wellEntry
-returns c = rw (c .before .before .before .before .e .given .1) (cc)
+returns c = rw (c .before .before .before .before .e .given .1, ← c .before .before .well .ensures, ← c .before .well-value .ensures) (c .and .ensures)
 
 returns-2 : tie.Need-returns-2
 unfolding wellEntry
-returns-2 c = rw (c .before .before .before .before .e2 .given .1) (cc)
+returns-2 c = rw (c .before .before .before .before .e2 .given .1, ← c .before .before .well2 .ensures, ← c .before .well-value2 .ensures) (c .and2 .ensures)
 
 returns-3 : tie.Need-returns-3
 unfolding wellEntry
@@ -94,15 +94,15 @@ returns-5 c = rw (c .enum-told3 .given .1)
 
 returns-6 : tie.Need-returns-6
 unfolding wellEntry
-returns-6 c = rw (c .before .before .before .before .e3 .given .1) (cc)
+returns-6 c = rw (c .before .before .before .before .e3 .given .1, ← c .before .before .is-data .ensures, ← c .before .well-value3 .ensures) (c .and3 .ensures)
 
 returns-7 : tie.Need-returns-7
 unfolding wellEntry
-returns-7 c = rw (c .before .before .e4 .given .1) (cc)
+returns-7 c = rw (c .before .before .e4 .given .1) (c .is-data2 .ensures)
 
 returns-8 : tie.Need-returns-8
 unfolding wellEntry
-returns-8 c = rw (c .before .before .before .before .e5 .given .1) (cc)
+returns-8 c = rw (c .before .before .before .before .e5 .given .1, ← c .before .before .is-data3 .ensures, ← c .before .well-value4 .ensures) (c .and4 .ensures)
 
 returns-9 : tie.Need-returns-9
 unfolding wellEntry

@@ -1,42 +1,15 @@
+use Rattle.words.specs.Numbers.{fourAt}
 use Rattle.key.specs.Keys.{dataAt}
 use borrow.Author.Needs.{needs}
 use Rattle.key.proofs.Key.read_data.Statement.{statement}
 use Rattle.key.proofs.Key.read_data.Tie as tie
 
-word-at-requires : tie.Need-word-at-requires
-word-at-requires c κs = search needs
-
-add-word-at : tie.Need-add-word-at
-add-word-at c = search needs
-
-word-at-requires-2 : tie.Need-word-at-requires-2
-word-at-requires-2 c κs = search needs
-
-add-word-at-2 : tie.Need-add-word-at-2
-add-word-at-2 c = search needs
-
-word-at-requires-3 : tie.Need-word-at-requires-3
-word-at-requires-3 c κs = search needs
-
-add-word-at-3 : tie.Need-add-word-at-3
-add-word-at-3 c = search needs
-
-word-at-requires-4 : tie.Need-word-at-requires-4
-word-at-requires-4 c κs = search needs
+four-at-requires : tie.Need-four-at-requires
+four-at-requires c κs = search needs
 
 returns : tie.Need-returns
-unfolding dataAt
-returns c = cc
+unfolding dataAt fourAt
+returns c = rw (c .four-at .ensures)
 
 pub read-data-spec : {M : Type 1} → statement M
-read-data-spec =
-    tie.close
-    (tie.spec
-    word-at-requires
-    add-word-at
-    word-at-requires-2
-    add-word-at-2
-    word-at-requires-3
-    add-word-at-3
-    word-at-requires-4
-    returns)
+read-data-spec = tie.close (tie.spec four-at-requires returns)

@@ -1,0 +1,24 @@
+use Rattle.hash.proofs.Laws.{digest-joined}
+use borrow.Author.Needs.{needs}
+use Rattle.hash.proofs.digest_words.Statement.{statement}
+use Rattle.hash.proofs.digest_words.Tie as tie
+
+joined-requires : tie.Need-joined-requires
+joined-requires c κs = search needs
+
+joined-requires-2 : tie.Need-joined-requires-2
+joined-requires-2 c κs = search needs
+
+joined-requires-3 : tie.Need-joined-requires-3
+joined-requires-3 c κs = search needs
+
+joined-requires-4 : tie.Need-joined-requires-4
+joined-requires-4 c κs = search needs
+
+returns : tie.Need-returns
+returns c = digest-joined (c .before .before .before .before .args .s) _ _ _ _ (c .before .before .before .joined .ensures) (c .before .before .joined2 .ensures) (c .before .joined3 .ensures) (c .joined4 .ensures)
+
+pub digest-words-spec : {M : Type 1} → statement M
+digest-words-spec =
+    tie.close
+    (tie.spec joined-requires joined-requires-2 joined-requires-3 joined-requires-4 returns)

@@ -1,0 +1,2 @@
+-- The listing of a log.
+pub mod Listings

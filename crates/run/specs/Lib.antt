@@ -1,0 +1,2 @@
+-- A run over a log.
+pub mod Runs

@@ -1,0 +1,2 @@
+-- Numbers and lines as text.
+pub mod Text

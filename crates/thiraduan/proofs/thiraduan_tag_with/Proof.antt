@@ -1,0 +1,14 @@
+use mathlib.Core.Path.{ap}
+use borrow.Author.Needs.{needs}
+use Rattle.cmac.specs.declared.TagAnswer.{TagAnswer}
+use Rattle.thiraduan.proofs.thiraduan_tag_with.Statement.{statement}
+use Rattle.thiraduan.proofs.thiraduan_tag_with.Tie as tie
+
+tag-with-requires : tie.Need-tag-with-requires
+tag-with-requires c κs = search needs
+
+returns : tie.Need-returns
+returns c = (ap (λ (a : TagAnswer). a .verdict) (c .before .tag-with .ensures), ap (λ (a : TagAnswer). a .bytes) (c .before .tag-with .ensures))
+
+pub thiraduan-tag-with-spec : {M : Type 1} → statement M
+thiraduan-tag-with-spec = tie.close (tie.spec tag-with-requires returns)

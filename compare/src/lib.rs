@@ -16,6 +16,7 @@ mod raw {
         pub fn thiraduan_rewrite(log: *const u8, n: usize, out: *mut u8, room: usize, used: *mut u64) -> u32;
         pub fn thiraduan_open(key: *const u8, cache: *mut u8, n: usize, state: *mut u8) -> u32;
         pub fn thiraduan_step(log: *const u8, n: usize, state: *mut u8, cache: *mut u8, k: usize, used: *mut u64) -> u32;
+        pub fn thiraduan_run(log: *const u8, n: usize, state: *mut u8, cache: *mut u8, k: usize, told: *mut u64) -> u32;
         pub fn thiraduan_fingerprint(sealed: *const u8, n: usize, fingerprint: *const u8, yes: *mut u8) -> u32;
     }
 }
@@ -88,6 +89,14 @@ pub fn step(log: &[u8], state: &mut [u8; STATE], cache: &mut [u8]) -> (u32, usiz
     let verdict =
         unsafe { raw::thiraduan_step(log.as_ptr(), log.len(), state.as_mut_ptr(), cache.as_mut_ptr(), cache.len(), &mut used) };
     (verdict, used as usize)
+}
+
+/// A run: 0 or 1, and settled, met, accepted, used; the state's bytes and the cache are written.
+pub fn run(log: &[u8], state: &mut [u8; STATE], cache: &mut [u8]) -> (u32, [u64; 4]) {
+    let mut told = [u64::MAX; 4];
+    let verdict =
+        unsafe { raw::thiraduan_run(log.as_ptr(), log.len(), state.as_mut_ptr(), cache.as_mut_ptr(), cache.len(), told.as_mut_ptr()) };
+    (verdict, told)
 }
 
 /// A generator of inputs (splitmix64): the same seed gives the same inputs.

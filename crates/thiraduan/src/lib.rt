@@ -8,7 +8,7 @@ ghost use Rattle.state.specs.States.{openDef};
 ghost use Rattle.entry.specs.Entries.{readEntry, readingVerdict, readingUsed};
 ghost use Rattle.sha256.specs.Sha256.{digestOf};
 ghost use Rattle.term.specs.Terms.{termKey, matches};
-ghost use Rattle.thiraduan.specs.Answers.{flag, rewritten, flatStep};
+ghost use Rattle.thiraduan.specs.Answers.{flag, rewritten, flatStep, flatRun};
 use entry::Reading;
 use flat::StateRead;
 
@@ -183,6 +183,35 @@ pub extern "C" fn thiraduan_step(
             flat::write_state(state, s);
             *used = r.used as u64;
             r.verdict
+        }
+    }
+}
+
+// A run over a log on a state's 129 bytes: the end state's bytes to state; the last epoch settled, entries met, entries accepted and bytes used to told.
+// Bytes that are no state: 1, and nothing else is written but zeros to told.
+#[no_mangle]
+pub extern "C" fn thiraduan_run(
+    log: &[u8],
+    state: &mut [u8; 129],
+    cache: &mut [u8],
+    told: &mut [u64; 4],
+) -> u32
+    ensures { λ r. ⌜ r ≡ flatRun (now (log .entry)) (now (state .entry)) (now (cache .entry)) .verdict ⌝ }
+    ensures { λ _. ⌜ now (state .exit) ≡ flatRun (now (log .entry)) (now (state .entry)) (now (cache .entry)) .state ⌝ }
+    ensures { λ _. ⌜ now (cache .exit) ≡ flatRun (now (log .entry)) (now (state .entry)) (now (cache .entry)) .cache ⌝ }
+    ensures { λ _. ⌜ now (told .exit) ≡ flatRun (now (log .entry)) (now (state .entry)) (now (cache .entry)) .told ⌝ }
+{
+    match flat::read_state(state) {
+        StateRead::Bad => {
+            *told = [0, 0, 0, 0];
+            verdict::NOT_WELL
+        }
+        StateRead::Good(st) => {
+            let r = run::run(log, st, cache);
+            let s = r.state;
+            flat::write_state(state, s);
+            *told = [r.settled, r.met, r.accepted, r.used as u64];
+            verdict::ACCEPTED
         }
     }
 }

@@ -128,6 +128,14 @@ fn slot(cache: &[u8], i: usize) -> Option<Slot> {
     Some(Slot::Full { origin: bytes[0], key, value })
 }
 
+/// The record in slot i, if there is one: origin, key, value.
+pub fn held(cache: &[u8], i: usize) -> Option<(u8, Key, Value)> {
+    match slot(cache, i)? {
+        Slot::Free => None,
+        Slot::Full { origin, key, value } => Some((origin, key, value)),
+    }
+}
+
 fn put_slot(cache: &mut [u8], i: usize, origin: u8, key: &Key, value: &Value) {
     let mut bytes = vec![origin];
     key.encode(&mut bytes);

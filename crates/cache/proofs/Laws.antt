@@ -9,7 +9,7 @@ use lib.ListN.{drop}
 use lib.Seq.{drop-drop}
 use Rattle.words.specs.Choice.{pick}
 use Rattle.words.specs.Numbers.{numberAt}
-use Rattle.words.proofs.Laws.{picked}
+use Rattle.words.proofs.Laws.{picked, never}
 use Rattle.key.specs.Keys.{keyAt, rawKey, wellKey, keyEq}
 use Rattle.key.specs.declared.Key.{Key}
 use Rattle.key.specs.declared.KeyRead.the-variants as kr
@@ -27,7 +27,7 @@ key-word : (s : List ℕ) (k : Key) → keyAt s 1 ≡ kr.Good k → numberAt 8 s
 unfolding keyAt rawKey
 key-word s k e =
     picked (wellKey (rawKey s 1)) _ _ _ e (λ _ q. let h : rawKey s 1 ≡ k = cc in ap (λ (j : Key). j .w0) h)
-    (λ _ q. absurd (let z : _≡_ {A = ℕ} 0 1 = cc in omega arith))
+    (λ _ q. never cc)
 
 pub other-word : (s : List ℕ) (k : Key) → (numberAt 8 s 3 ≡ k .w0 → ⊥) → false ≡ slotHas (slotAt s) k
 other-word s k h = go (slotAt s) refl

@@ -1,4 +1,5 @@
 -- Laws of the cache.
+pub mod Examples
 pub mod Laws
 pub mod Slots
 pub mod Found

@@ -8,9 +8,9 @@ use native.Mathlib.Nat.{mul-div-cancel, zero-add}
 use lib.Dec.{lit<, lit≤}
 use lib.ListN.{length, take, drop, length-append}
 use lib.Seq.{take-at, drop-append-add}
-use Rattle.words.specs.Numbers.{zeros}
+use Rattle.words.specs.Numbers.{zeros, Bytes}
 use Rattle.words.specs.Splices.{splice}
-use Rattle.words.proofs.Laws.{zeros-length}
+use Rattle.words.proofs.Laws.{zeros-length, append-bytes, never}
 use Rattle.key.specs.Keys.{wellKey, clean, rootKey}
 use Rattle.key.specs.declared.Key.{Key}
 use Rattle.value.specs.Values.{fits, bareNode, wellSide, wellValue}
@@ -18,7 +18,7 @@ use Rattle.value.specs.declared.Value.{Value}
 use Rattle.value.specs.declared.Value.the-variants as v
 use Rattle.slot.specs.Slots.{slotLength, tree, slotAt, slotBytes}
 use Rattle.slot.specs.declared.Slot.the-variants as sl
-use Rattle.slot.proofs.Laws.{slot-length, drop-zeros, take-zeros}
+use Rattle.slot.proofs.Laws.{slot-length, slot-bytes, zeros-bytes, drop-zeros, take-zeros}
 use Rattle.slot.proofs.Back.{Kept, slot-back, zero-slot}
 use Rattle.cache.specs.Caches.{wellLength, count, slotIn, wellCache, openedCache}
 use Rattle.cache.proofs.Slots.{length-well}
@@ -70,9 +70,6 @@ opened-free n i h =
 
 -- ---- it is well formed
 
-never : {A : Type 0} → _≡_ {A = ℕ} 0 1 → A
-never e = absurd (omega arith)
-
 module _ (n : ℕ) where
   -- the root's is its only record
   only : (i o : ℕ) (k : Key) (x : Value) → i < count (openedCache n) → slotIn (openedCache n) i ≡ sl.Full o k x → (i ≡ 0) × (fits k x ≡ true)
@@ -109,3 +106,8 @@ opened-as-long c w =
 
 pub opened-well-length : (c : List ℕ) → wellLength c ≡ true → wellLength (openedCache (count c - 1)) ≡ true
 opened-well-length c w = length-well (openedCache (count c - 1)) c (opened-as-long c w) ∙ w
+
+pub opened-bytes : (n : ℕ) → Bytes (openedCache n)
+unfolding openedCache
+opened-bytes n =
+    append-bytes rootRecord (zeros (n * slotLength)) (slot-bytes tree rootKey (v.Node bareNode) (lit< tt)) (zeros-bytes (n * slotLength))

@@ -10,7 +10,7 @@ use lib.Dec.{eqb, leb}
 use lib.ListN.{length, take}
 use borrow.Author.Tests.{lt-ltb, eq-eqb, ne-eqb, eqb-true, leb-true}
 use Rattle.words.specs.Choice.{pick, both}
-use Rattle.words.proofs.Laws.{picked, both-true}
+use Rattle.words.proofs.Laws.{picked, both-true, never}
 use Rattle.key.specs.Keys.{keyEq, rootKey}
 use Rattle.key.specs.declared.Key.{Key}
 use Rattle.key.proofs.Laws.{keyEq-true, keyEq-refl}
@@ -23,9 +23,6 @@ use Rattle.slot.proofs.Back.{Kept}
 use Rattle.cache.specs.Caches.{wellLength, count, slotIn, putSlot, freeSlot, held, wellRecord, wellSlot, wellAt, wellFrom, wellCache}
 use Rattle.cache.proofs.Slots.{put-here, put-other, put-count, free-here, free-other, free-count, first-count, first-slot}
 use Rattle.cache.proofs.Found.{held-nowhere, nowhere-held}
-
-never : {A : Type 0} → _≡_ {A = ℕ} 0 1 → A
-never e = absurd (omega arith)
 
 -- ---- what 28 leaves
 

@@ -12,10 +12,12 @@ use Rattle.words.specs.Splices.{splice}
 use Rattle.words.proofs.Laws.{bytes-length, bytes-back, bytes-split, number-at, part-join, splice-length, splice-step, take-splice}
 use Rattle.sha256.specs.Sha256.{sha256, hashOf, hashBytes}
 use Rattle.sha256.specs.declared.Hash.{Hash}
-use Rattle.value.specs.Values.{digestAt, digestBytes, valueBytes}
+use Rattle.value.specs.Values.{digestAt, digestBytes, valueBytes, DigestFits}
 use Rattle.value.specs.declared.Digest.{Digest}
 use Rattle.value.specs.declared.Value.{Value}
 use Rattle.value.proofs.Back.{digest-back}
+use Rattle.value.proofs.Same.{digest-fits}
+use Rattle.value.proofs.Written.{then, number}
 use Rattle.hash.specs.Hashes.{digestOf, setBytes, setKey}
 use Rattle.hash.specs.declared.SetKey.{SetKey}
 
@@ -57,6 +59,18 @@ module _ (s : Hash) (x y z w : ℕ) (jx : Joined x (s .a) (s .b)) (jy : Joined y
 pub digest-is : (v : Value) (b : List ℕ) (s : Hash) (d : Digest) → b ≡ valueBytes v → s ≡ hashOf b → d ≡ digestAt (hashBytes s) 0 → d ≡ digestOf v
 unfolding digestOf sha256
 digest-is v b s d p q r = r ∙ ap (λ (h : Hash). digestAt (hashBytes h) 0) (q ∙ ap hashOf p)
+
+-- a digest is bytes, and as words it fits its fields
+pub sha-bytes : (m : List ℕ) → Bytes (sha256 m)
+unfolding sha256
+sha-bytes m =
+    let s = hashOf m in
+    then (then (then (then (then (then (then (number 4 (s .a)) (number 4 (s .b))) (number 4 (s .c))) (number 4 (s .d))) (number 4 (s .e))) (number 4 (s .f))) (number 4 (s .g))) (number 4 (s .h))
+    .bytes
+
+pub digest-of-fits : (x : Value) → DigestFits (digestOf x)
+unfolding digestOf
+digest-of-fits x = digest-fits (sha256 (valueBytes x)) 0 (sha-bytes (valueBytes x))
 
 -- ---- what is written at the start of a buffer
 

@@ -1,2 +1,3 @@
 -- Laws of the digest, the set key and the tag.
+pub mod Examples
 pub mod Laws

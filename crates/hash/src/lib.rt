@@ -23,13 +23,18 @@ pub struct SetKey {
     pub k1: u64,
 }
 
+pub const SET_KEY_BYTES: usize = 16;
+
 // Where the set key's second word stands in its bytes.
 const SECOND_WORD: usize = 8;
+
+// How many values a word of 32 bits has.
+const WORD_VALUES: u64 = 4294967296;
 
 fn joined(high: u32, low: u32) -> u64
     ensures { λ r. ⌜ (r ≡ high * 2 ^ 32 + low) × (high < 2 ^ 32) × (low < 2 ^ 32) ⌝ }
 {
-    (high as u64) * 4294967296 + (low as u64)
+    (high as u64) * WORD_VALUES + (low as u64)
 }
 
 // A hash value as a digest: eight words are four, and no byte is written.
@@ -54,7 +59,7 @@ pub fn digest_of(v: Value) -> Digest
 }
 
 // The set key that 16 bytes make.
-pub fn set_key(b: &[u8; 16]) -> SetKey
+pub fn set_key(b: &[u8; SET_KEY_BYTES]) -> SetKey
     ensures { λ r. ⌜ r ≡ setKey (now (b .entry)) ⌝ }
 {
     SetKey {
@@ -64,10 +69,10 @@ pub fn set_key(b: &[u8; 16]) -> SetKey
 }
 
 // The set key's 16 bytes.
-pub fn set_bytes(k: SetKey) -> [u8; 16]
+pub fn set_bytes(k: SetKey) -> [u8; SET_KEY_BYTES]
     ensures { λ r. ⌜ r ≡ setBytes k ⌝ }
 {
-    let mut b = [0u8; 16];
+    let mut b = [0u8; SET_KEY_BYTES];
     put_word(&mut b, 0, k.k0);
     put_word(&mut b, SECOND_WORD, k.k1);
     b

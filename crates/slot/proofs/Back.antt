@@ -10,7 +10,7 @@ use lib.ListN.{length, getD, take, drop, length-append, length-drop, take-append
 use lib.Seq.{drop-at, length-take-le}
 use borrow.Author.Tests.{ne-eqb, le-ltb, eqb-true, eqb-false, ltb-false}
 use Rattle.words.specs.Numbers.{zeros, Bytes}
-use Rattle.words.proofs.Laws.{both-true, picked, part-one, part-step}
+use Rattle.words.proofs.Laws.{both-true, picked, part-one, part-step, never}
 use Rattle.key.specs.Keys.{keyAt, keyBytes, wellKey, KeyFits}
 use Rattle.key.specs.declared.Key.{Key}
 use Rattle.key.specs.declared.KeyRead.{KeyRead}
@@ -24,9 +24,6 @@ use Rattle.value.proofs.Back.{value-back}
 use Rattle.value.proofs.Same.{value-same}
 use Rattle.slot.specs.Slots.{slotLength, filled, slotBytes, allZero, slotEnd, slotThen, slotAt}
 use Rattle.slot.specs.declared.Slot.the-variants.{Free, Full, Bad}
-
-never : {A : Type 0} → _≡_ {A = ℕ} 0 1 → A
-never e = absurd (omega arith)
 
 -- ---- zeros
 

@@ -1,4 +1,4 @@
--- Laws of a slot as it is written: zeros, the tail's test, and its length. Assumes nothing.
+-- Laws of a slot as it is written: zeros, the tail's test, its length and its bytes. Assumes nothing.
 use Prim.Native.Nat.{ℕ, zero, suc, _+_, _*_, _-_, _≤_, _<_}
 use mathlib.Core.Path.{_≡_, refl, ap, sym, _∙_}
 use mathlib.Core.List.{List, [], _∷_, _++_}
@@ -6,20 +6,21 @@ use mathlib.Core.Bool.{Bool, false}
 use native.Mathlib.Omega.{arith}
 use native.Mathlib.Numerals.{add-one}
 use native.Mathlib.Nat.{add-suc, add-zero, suc-sub-suc, sub-zero, zero-sub, zero-add}
-use lib.Dec.{eqb}
+use lib.Dec.{eqb, lit<}
 use lib.ListN.{length, getD, take, drop, length-append}
 use lib.Seq.{drop-cons}
 use borrow.Author.Tests.{eq-eqb, ne-eqb}
 use Rattle.words.specs.Choice.{both}
-use Rattle.words.specs.Numbers.{numberAt, zeros}
+use Rattle.words.specs.Numbers.{numberAt, zeros, Bytes}
 use Rattle.words.specs.Splices.{splice}
-use Rattle.words.proofs.Laws.{zeros-length}
+use Rattle.words.proofs.Laws.{zeros-length, no-bytes, one-byte, append-bytes}
 use Rattle.key.specs.Keys.{keyBytes}
 use Rattle.key.specs.declared.Key.{Key}
 use Rattle.key.proofs.Laws.{key-length}
 use Rattle.value.specs.declared.Value.{Value}
 use Rattle.value.specs.Values.{valueBytes}
 use Rattle.value.proofs.Laws.{value-length}
+use Rattle.value.proofs.Written.{then, one, key, value}
 use Rattle.slot.specs.Slots.{slotLength, allZero, filled, slotBytes}
 
 -- ---- the test of zeros
@@ -85,3 +86,17 @@ pub slot-length : (o : ℕ) (k : Key) (v : Value) → length (slotBytes o k v) �
 unfolding slotBytes
 slot-length o k v =
     filled-length ((o ∷ []) ++ (keyBytes k ++ valueBytes v)) (simp (length-append, key-length) (omega (arith, value-length v)))
+
+-- ---- what is written is bytes
+
+pub zeros-bytes : (n : ℕ) → Bytes (zeros n)
+unfolding zeros
+zeros-bytes zero = no-bytes
+zeros-bytes (suc n) = append-bytes (0 ∷ []) (zeros n) (one-byte 0 (lit< tt)) (zeros-bytes n)
+
+pub slot-bytes : (o : ℕ) (k : Key) (v : Value) → o < 256 → Bytes (slotBytes o k v)
+unfolding slotBytes
+slot-bytes o k v h =
+    then (then (one o h) (then (key k) (value v)))
+    (record { bytes = zeros-bytes (slotLength - length ((o ∷ []) ++ (keyBytes k ++ valueBytes v))) })
+    .bytes

@@ -1,3 +1,4 @@
 -- Laws of slots.
+pub mod Examples
 pub mod Laws
 pub mod Back

@@ -64,7 +64,7 @@ fn zero_tail(s: &[u8], at: usize) -> bool
 }
 
 // Whether every byte from a place on is zero, a word at a time: a slot's tail has up to 190 bytes. Inner.
-fn zero_from(s: &[u8], at: usize) -> bool
+pub fn zero_from(s: &[u8], at: usize) -> bool
     requires { ⌜ at ≤ length (now s) ⌝ }
     ensures { λ r. ⌜ r ≡ allZero (drop at (now (s .entry))) ⌝ }
 {

@@ -1,2 +1,3 @@
 -- Laws of the trusted state.
+pub mod Examples
 pub mod Laws

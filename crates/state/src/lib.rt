@@ -248,7 +248,7 @@ impl State {
         }
     }
 
-    fn fresh(key: &[u8; 16]) -> State
+    fn fresh(key: &[u8; hash::SET_KEY_BYTES]) -> State
         ensures { λ r. ⌜ r ≡ freshState (now (key .entry)) ⌝ }
     {
         State {
@@ -285,7 +285,7 @@ fn root_value() -> Value
 }
 
 // A fresh state, with the root in slot 0 of the lent cache and zeros behind; or 28, and the cache untouched.
-pub fn open(key: &[u8; 16], cache: &mut [u8]) -> Opened
+pub fn open(key: &[u8; hash::SET_KEY_BYTES], cache: &mut [u8]) -> Opened
     ensures { λ r. ⌜ opening r (now (cache .exit)) ≡ openDef (now (key .entry)) (now (cache .entry)) ⌝ }
 {
     if cache::well_length(cache) {

@@ -3,6 +3,8 @@
 ghost use mathlib.Core.Path.{_≡_};
 ghost use Rattle.aes.specs.Aes.{expansion, encrypted};
 ghost use Rattle.cmac.specs.Tags.{tagOf, tagWith};
+ghost use Rattle.flat.specs.Flats.{stateBytes};
+ghost use Rattle.state.specs.States.{openDef};
 ghost use Rattle.entry.specs.Entries.{readEntry, readingVerdict, readingUsed};
 ghost use Rattle.sha256.specs.Sha256.{digestOf};
 ghost use Rattle.term.specs.Terms.{termKey, matches};
@@ -140,4 +142,17 @@ pub extern "C" fn thiraduan_rewrite(log: &[u8], out: &mut [u8], used: &mut u64) 
             w.verdict
         }
     }
+}
+
+// Opening: a fresh state's 129 bytes to state, the root in slot 0 of the cache and zeros behind. With 28 a state of zeros, and the cache untouched.
+#[no_mangle]
+pub extern "C" fn thiraduan_open(key: &[u8; 16], cache: &mut [u8], state: &mut [u8; 129]) -> u32
+    ensures { λ r. ⌜ r ≡ openDef (now (key .entry)) (now (cache .entry)) .answer .verdict ⌝ }
+    ensures { λ _. ⌜ now (cache .exit) ≡ openDef (now (key .entry)) (now (cache .entry)) .bytes ⌝ }
+    ensures { λ _. ⌜ now (state .exit) ≡ stateBytes (openDef (now (key .entry)) (now (cache .entry)) .answer .state) ⌝ }
+{
+    let o = state::open(key, cache);
+    let st = o.state;
+    flat::write_state(state, st);
+    o.verdict
 }

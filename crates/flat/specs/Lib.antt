@@ -1,0 +1,2 @@
+-- The state as bytes of a fixed layout, for callers outside.
+pub mod Flats

@@ -1,0 +1,2 @@
+-- A step keeps what is well formed.
+pub mod Kept

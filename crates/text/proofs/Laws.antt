@@ -105,15 +105,15 @@ pub line-length : (n t v e : ℕ) → length (lineText n t v e) ≡ length (fiel
 unfolding lineText
 line-length n t v e = simp length-append
 
--- a line of five, three, two and seven digits
-pub line-fits : (n t v e : ℕ) → n < 100000 → t < 1000 → v < 100 → e < 10000000 → length (lineText n t v e) ≤ 21
-line-fits n t v e p q r s =
-    omega (arith, line-length n t v e, field-fits 4 n space p, field-fits 2 t space q, field-fits 1 v space r, field-fits 6 e lineFeed s)
+-- a line of numbers of so many digits, each less 1
+pub line-fits : (a b c d n t v e : ℕ) → n < 10 ^ suc a → t < 10 ^ suc b → v < 10 ^ suc c → e < 10 ^ suc d → length (lineText n t v e) ≤ a + b + c + d + 8
+line-fits a b c d n t v e p q r s =
+    omega (arith, line-length n t v e, field-fits a n space p, field-fits b t space q, field-fits c v space r, field-fits d e lineFeed s)
 
 pub end-length : (s u : ℕ) → length (endText s u) ≡ 8 + (length (field s space) + (6 + length (field u lineFeed)))
 unfolding endText
 end-length s u = simp length-append (omega arith)
 
--- a last line of seven and five digits
-pub end-fits : (s u : ℕ) → s < 10000000 → u < 100000 → length (endText s u) ≤ 28
-end-fits s u p q = omega (arith, end-length s u, field-fits 6 s space p, field-fits 4 u lineFeed q)
+-- a last line of numbers of so many digits, each less 1
+pub end-fits : (a b s u : ℕ) → s < 10 ^ suc a → u < 10 ^ suc b → length (endText s u) ≤ a + b + 18
+end-fits a b s u p q = omega (arith, end-length s u, field-fits a s space p, field-fits b u lineFeed q)

@@ -18,7 +18,6 @@ pub mod Lane
 pub mod Slots
 pub mod Caches
 pub mod Tallies
-pub mod Written
 pub mod Refines
 pub mod RefineAdds
 pub mod RefineEvicts

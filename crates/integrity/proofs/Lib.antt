@@ -25,6 +25,7 @@ pub mod RefineAnswers
 pub mod RefineEpochs
 pub mod Refused
 pub mod Stood
+pub mod Messages
 pub mod Opened
 pub mod Replay
 pub mod Settled

@@ -31,5 +31,6 @@ pub mod Replay
 pub mod Settled
 -- the theorem, and what shows that it says neither more nor less
 pub mod Demand3
+pub mod RunOver
 pub mod Traps
 pub mod AnswerEpoch

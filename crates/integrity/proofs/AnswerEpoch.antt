@@ -73,7 +73,7 @@ stays m w x q s = by-step (step-settles (m .state) (m .cache) w)
   where
     by-step : Stepping (m .state) (m .cache) w (step w (m .state) (m .cache)) → after m w ≡ m
     by-step (refused.kept n l z u) = rw u
-    by-step (refused.took y n σ d g h u) =
+    by-step (refused.took f₁ y n σ d g h u) =
         let e : y ≡ x = Option·some-injective _ _ (sym (rw (u, g)) ∙ q) in
         let f : entryStep x (m .state) (m .cache) ≡ accepts σ d = ap (λ z. entryStep z (m .state) (m .cache)) (sym e) ∙ h in
         let a : σ ≡ m .state = ap (λ (o : Outcome). o .done .state) (sym f) ∙ s .state in

@@ -24,6 +24,7 @@ use Rattle.integrity.proofs.Opened.{opened-stands}
 use Rattle.integrity.proofs.Settled.{settled-is, closed-settled}
 use Rattle.integrity.proofs.Refused.{step-short}
 use Rattle.integrity.proofs.Replay.{first-stood, AgreeAll, each-agrees, Replay, held-stood, replay}
+use Rattle.integrity.proofs.Messages.{none-well, odd-apart}
 use Rattle.integrity.proofs.Stood.{same-sha}
 
 -- ---- from a fresh state and an opened cache
@@ -61,7 +62,7 @@ module _ (key : List ℕ) (n : ℕ) (ws : List (List ℕ)) where
   unfolding tags
   cancel p e x =
       let y = rw (p .ads, p .evs) at (x .3) in
-      record { epoch = x .0; first = x .1; last = x .2; some-odd = y .0; cancel = sym (sum-is (setKey key) _) ∙ y .1 }
+      record { epoch = x .0; first = x .1; last = x .2; some-odd = y .0; apart = odd-apart (x .0) _ _ (p .ads-well none-well) (p .evs-well none-well); cancel = sym (sum-is (setKey key) _) ∙ y .1 }
 
   agrees : (p : Whole) (e : ℕ) → AllSay digestOf isData Tag tags (tagOf (setKey key)) e (p .whole) → AnswersAgree e begin ws
   agrees p e a before w rest q h = each-agrees e begin (λ k. None) before w rest (subst (λ l. AgreeAll e begin (λ k. None) l) q (p .agree e a .0)) h

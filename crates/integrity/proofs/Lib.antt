@@ -18,7 +18,6 @@ pub mod Lane
 pub mod Slots
 pub mod Caches
 pub mod Tallies
-pub mod Written
 pub mod Refines
 pub mod RefineAdds
 pub mod RefineEvicts
@@ -26,10 +25,12 @@ pub mod RefineAnswers
 pub mod RefineEpochs
 pub mod Refused
 pub mod Stood
+pub mod Messages
 pub mod Opened
 pub mod Replay
 pub mod Settled
 -- the theorem, and what shows that it says neither more nor less
 pub mod Demand3
+pub mod RunOver
 pub mod Traps
 pub mod AnswerEpoch

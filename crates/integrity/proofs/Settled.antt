@@ -86,7 +86,7 @@ module _ (key : List ℕ) (n : ℕ) where
         where
           by : Stepping (run begin before .state) (run begin before .cache) w (step w (run begin before .state) (run begin before .cache)) → i ≤ settled (run (after (run begin before) w) rest .state)
           by (refused.kept m l z u) = absurd (Option·none-ne-some Close (sym (rw (u, z)) ∙ q))
-          by (refused.took x m σ d g h u) =
+          by (refused.took f x m σ d g h u) =
               let y = entry-same w bw x m g in
               let j = refine (setKey key) (run begin before .state) (run begin before .cache) (p .end) (p .stands) σ d x (y .well) (y .fits) h in
               let l = replay (setKey key) rest br σ d (j .stands) (snoc (p .whole) (j .acc)) in

@@ -20,6 +20,7 @@ use Rattle.entry.specs.declared.Entry.{Entry}
 use Rattle.entry.specs.declared.Entry.the-variants.{AddTree, AddDeferred, EvictTree, EvictDeferred, EvictTreeDeferred, Get, Absent, Put, Advance, Close}
 use Rattle.writer.specs.Writings.{EntryFits}
 use Rattle.hash.specs.Hashes.{digestOf}
+use Rattle.hash.proofs.Laws.{sha-bytes}
 use Rattle.slot.specs.Slots as slot
 use Rattle.slot.specs.declared.Slot.{Slot}
 use Rattle.slot.specs.declared.Slot.the-variants as sl
@@ -31,7 +32,6 @@ use Rattle.integrity.proofs.Updates as updates
 use Rattle.integrity.proofs.Records.{Value, Cell}
 use Rattle.integrity.proofs.Slots.{look}
 use Rattle.integrity.proofs.Caches.{recOf, slotsOf}
-use Rattle.integrity.proofs.Written.{sha-bytes}
 
 -- ---- lists
 

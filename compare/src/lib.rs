@@ -1,5 +1,6 @@
 //! Safe covers over the proved static library, and the means to make inputs.
 
+pub mod honest;
 pub mod host;
 
 use second::verifier::STATE;

@@ -1,5 +1,9 @@
 //! Safe covers over the proved static library, and the means to make inputs.
 
+pub mod host;
+
+use second::verifier::STATE;
+
 mod raw {
     extern "C" {
         pub fn thiraduan_digest(m: *const u8, n: usize, out: *mut u8) -> u32;
@@ -10,6 +14,9 @@ mod raw {
         pub fn thiraduan_encrypt(expanded: *const u8, block: *const u8, out: *mut u8);
         pub fn thiraduan_read(log: *const u8, n: usize, used: *mut u64) -> u32;
         pub fn thiraduan_rewrite(log: *const u8, n: usize, out: *mut u8, room: usize, used: *mut u64) -> u32;
+        pub fn thiraduan_open(key: *const u8, cache: *mut u8, n: usize, state: *mut u8) -> u32;
+        pub fn thiraduan_step(log: *const u8, n: usize, state: *mut u8, cache: *mut u8, k: usize, used: *mut u64) -> u32;
+        pub fn thiraduan_run(log: *const u8, n: usize, state: *mut u8, cache: *mut u8, k: usize, told: *mut u64) -> u32;
         pub fn thiraduan_fingerprint(sealed: *const u8, n: usize, fingerprint: *const u8, yes: *mut u8) -> u32;
     }
 }
@@ -69,6 +76,27 @@ pub fn rewrite(log: &[u8], out: &mut [u8]) -> (u32, usize) {
     let mut used = u64::MAX;
     let verdict = unsafe { raw::thiraduan_rewrite(log.as_ptr(), log.len(), out.as_mut_ptr(), out.len(), &mut used) };
     (verdict, used as usize)
+}
+
+/// Opening: the verdict; the state's bytes and the cache are written.
+pub fn open(key: &[u8; 16], cache: &mut [u8], state: &mut [u8; STATE]) -> u32 {
+    unsafe { raw::thiraduan_open(key.as_ptr(), cache.as_mut_ptr(), cache.len(), state.as_mut_ptr()) }
+}
+
+/// One step: the verdict, and the bytes used; the state's bytes and the cache are written.
+pub fn step(log: &[u8], state: &mut [u8; STATE], cache: &mut [u8]) -> (u32, usize) {
+    let mut used = u64::MAX;
+    let verdict =
+        unsafe { raw::thiraduan_step(log.as_ptr(), log.len(), state.as_mut_ptr(), cache.as_mut_ptr(), cache.len(), &mut used) };
+    (verdict, used as usize)
+}
+
+/// A run: 0 or 1, and settled, met, accepted, used; the state's bytes and the cache are written.
+pub fn run(log: &[u8], state: &mut [u8; STATE], cache: &mut [u8]) -> (u32, [u64; 4]) {
+    let mut told = [u64::MAX; 4];
+    let verdict =
+        unsafe { raw::thiraduan_run(log.as_ptr(), log.len(), state.as_mut_ptr(), cache.as_mut_ptr(), cache.len(), told.as_mut_ptr()) };
+    (verdict, told)
 }
 
 /// A generator of inputs (splitmix64): the same seed gives the same inputs.

@@ -447,6 +447,60 @@ pub fn step(log: &[u8], state: &State, cache: &mut [u8]) -> (u32, State, usize) 
     step_well(log, state, cache)
 }
 
+/// What a run returns.
+#[derive(Clone, Copy, Debug, PartialEq, Eq)]
+pub struct Ran {
+    pub state: State,
+    pub settled: u64,
+    pub met: u64,
+    pub accepted: u64,
+    pub used: u64,
+}
+
+/// One entry that a run met: its tag byte, its verdict, the current epoch after it.
+#[derive(Clone, Copy, Debug, PartialEq, Eq)]
+pub struct Met {
+    pub tag: u8,
+    pub verdict: u32,
+    pub epoch: u64,
+}
+
+/// A run: continues after a refusal, stops at the end of the log or at 28, 1 or 3; the entry it stops at counts as met.
+pub fn run(log: &[u8], state: &State, cache: &mut [u8]) -> (Ran, Vec<Met>) {
+    let sound = well_length(cache) && well_formed(state, cache);
+    let mut ran = Ran { state: *state, settled: 0, met: 0, accepted: 0, used: 0 };
+    let mut all = Vec::new();
+    let mut rest = log;
+    while !rest.is_empty() {
+        let (verdict, next, used) = if sound { step_well(rest, &ran.state, cache) } else { step(rest, &ran.state, cache) };
+        ran.state = next;
+        ran.met += 1;
+        all.push(Met { tag: rest[0], verdict, epoch: next.epoch });
+        if matches!(verdict, 28 | 1 | 3) {
+            break;
+        }
+        ran.accepted += u64::from(verdict == 0);
+        ran.used += used as u64;
+        rest = &rest[used..];
+    }
+    if sound {
+        ran.settled = ran.state.settled();
+    }
+    (ran, all)
+}
+
+/// The program's listing of a log with four slots.
+pub fn listing(set: &[u8; 16], log: &[u8]) -> String {
+    let mut cache = vec![0; 4 * SLOT];
+    let (_, state) = open(set, &mut cache);
+    let (ran, all) = run(log, &state, &mut cache);
+    let mut out = String::from("slots 4\n");
+    for (i, met) in all.iter().enumerate() {
+        out += &format!("{} {} {} {}\n", i + 1, met.tag, met.verdict, met.epoch);
+    }
+    out + &format!("settled {} bytes {}\n", ran.settled, ran.used)
+}
+
 #[cfg(test)]
 mod tests {
     use super::*;
@@ -473,6 +527,14 @@ mod tests {
             state = next;
         }
         (verdicts, state, cache)
+    }
+
+    /// The listing of document 01.
+    #[test]
+    fn the_listing() {
+        let log = [&[9, 0, 0, 10, 0, 0, 10, 0, 0, 7, 0, 0x22][..], &[0; 34]].concat();
+        assert_eq!(listing(&[1; 16], &log), "slots 4\n1 9 0 2\n2 10 0 2\n3 10 22 2\n4 7 0 2\nsettled 1 bytes 46\n");
+        assert_eq!(listing(&[1; 16], &[]), "slots 4\nsettled 0 bytes 0\n");
     }
 
     /// M1 to M12 of document 01.

@@ -1,10 +1,10 @@
--- Keys as words: proper ancestor with its side, and what a Patricia tree needs of it.
-use Prim.Native.Nat.{ℕ, zero, suc, _+_, _*_, _-_, _/_, _%_, _^_, _≤_, _<_}
+-- Keys as words: proper ancestor with its side, and what a tree of keys needs of it: two prefixes of one key are comparable, and sides go on
+-- downward. Whether a key is well formed is part of the relation, so that every law holds without conditions.
+use Prim.Native.Nat.{ℕ, _+_, _-_, _/_, _%_, _^_, _≤_, _<_}
 use mathlib.Core.Path.{_≡_, refl, sym, _∙_, ap, subst}
-use mathlib.Core.Logic.{_⊎_, inl, inr, _≢_}
-use mathlib.Core.Bool.{Bool, true, false}
+use mathlib.Core.Bool.{Bool, true}
 use native.Mathlib.Omega.{arith}
-use native.Mathlib.Decide.{decLt, ℕ-discrete}
+use native.Mathlib.Decide.{decLt}
 use native.Mathlib.Nat.{div-add-mod'}
 use lib.Pow.{shr-shr}
 use lib.Dec.{eqb, ltb, leb}

@@ -2,7 +2,7 @@
 -- after it and that goes out with the answer.
 use mathlib.Core.Path.{_≡_, refl, sym, _∙_, ap, ap₂}
 use mathlib.Core.Bool.{Bool, true, false}
-use mathlib.Core.Option.{none, some, Option·none-ne-some, Option·some-injective}
+use mathlib.Core.Option.{some, Option·some-injective}
 use mathlib.Core.List.{List}
 use Prim.Native.Nat.{ℕ}
 use lib.Dec.{leb}
@@ -73,7 +73,7 @@ stays m w x q s = by-step (step-settles (m .state) (m .cache) w)
   where
     by-step : Stepping (m .state) (m .cache) w (step w (m .state) (m .cache)) → after m w ≡ m
     by-step (refused.kept n l z u) = rw u
-    by-step (refused.took y n σ d g h u) =
+    by-step (refused.took f₁ y n σ d g h u) =
         let e : y ≡ x = Option·some-injective _ _ (sym (rw (u, g)) ∙ q) in
         let f : entryStep x (m .state) (m .cache) ≡ accepts σ d = ap (λ z. entryStep z (m .state) (m .cache)) (sym e) ∙ h in
         let a : σ ≡ m .state = ap (λ (o : Outcome). o .done .state) (sym f) ∙ s .state in

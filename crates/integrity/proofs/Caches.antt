@@ -1,13 +1,13 @@
--- The cache's bytes as slots.
+-- Refinement, the cache's bytes as slots: what writing a slot's 192 bytes makes of them, and what it means that a key is not held.
 use Prim.Native.Nat.{ℕ, zero, suc, _+_, _*_, _-_, _/_, _≤_, _<_}
 use mathlib.Core.Path.{_≡_, refl, ap, sym, _∙_, subst}
-use mathlib.Core.Logic.{_⊎_, inl, inr, _≢_}
+use mathlib.Core.Logic.{_≢_}
 use mathlib.Core.List.{List, [], _∷_, _++_, append-assoc}
-use mathlib.Core.Bool.{Bool, true, false, true≢false, false≢true}
+use mathlib.Core.Bool.{false, true≢false}
 use mathlib.Core.Option.{Option, none, some}
 use native.Mathlib.Omega.{arith}
-use native.Mathlib.Nat.{zero-mul, div-mul-le-self}
-use lib.ListN.{getD, set, length, length-append, length-take, length-drop, take, drop, take-append-drop}
+use native.Mathlib.Nat.{div-mul-le-self}
+use lib.ListN.{set, length, length-drop, take, drop, take-append-drop}
 use lib.Seq.{take-at, drop-at, take-append-add, drop-append-add, drop-drop, length-take-le}
 use Rattle.words.specs.Splices.{splice}
 use Rattle.words.specs.Numbers.{zeros}
@@ -15,16 +15,16 @@ use Rattle.key.specs.Keys.{keyEq}
 use Rattle.slot.specs.Slots as slot
 use Rattle.slot.specs.declared.Slot.{Slot}
 use Rattle.slot.specs.declared.Slot.the-variants as sl
-use Rattle.cache.specs.Caches.{slotIn, count, putSlot, freeSlot, slotHas, heldIn, held}
+use Rattle.cache.specs.Caches.{slotIn, count, putSlot, freeSlot, slotHas, heldIn}
+use Rattle.cache.proofs.Slots.{put-count, written-length}
 use Rattle.key.proofs.Laws.{keyEq-refl}
 use Rattle.value.specs.declared.Value.{Value}
 use Rattle.slot.specs.Slots.{slotBytes}
 use Rattle.slot.proofs.Laws.{slot-length}
 use Rattle.slot.proofs.Back.{Kept, zero-slot, slot-back}
 use Rattle.integrity.proofs.Ancestors.{Key}
-use Rattle.integrity.proofs.Updates.{Is, is, isnt, view, upd}
+use Rattle.integrity.proofs.Updates.{Is, is, isnt, view}
 use Rattle.integrity.proofs.Updates as views
-use Rattle.integrity.proofs.Records.{Cell}
 use Rattle.integrity.proofs.Slots.{Rec, Slots, slotAt, look}
 use Rattle.words.proofs.Laws.{picked, zeros-length}
 
@@ -81,14 +81,9 @@ module _ (b : List ℕ) (e : length b ≡ 192) where
       let r = slots-set n (drop 192 c) i (omega arith) (omega (arith, length-drop 192 c)) in
       rw (s, take-at (take 192 c) (splice (drop 192 c) (i * 192) b) 192 t, drop-at (take 192 c) (splice (drop 192 c) (i * 192) b) 192 t, r)
 
-  pub set-length : (c : List ℕ) (i : ℕ) → i < count c → length (splice c (i * 192) b) ≡ length c
-  unfolding splice
-  set-length c i h = let k = div-mul-le-self (length c) 192 in
-      length-append (take (i * 192) c) _ ∙ rw (length-append b (drop (i * 192 + length b) c), e, length-drop, length-take-le (i * 192) c (omega arith)) (omega arith)
-
   -- the whole cache
   pub slots-write : (c : List ℕ) (i : ℕ) → i < count c → slotsIn (splice c (i * 192) b) ≡ set (slotsIn c) i (recOf (slot.slotAt b))
-  slots-write c i h = ap (λ (m : ℕ). slotsOf (m / 192) (splice c (i * 192) b)) (set-length c i h) ∙ slots-set (count c) c i h (div-mul-le-self (length c) 192)
+  slots-write c i h = ap (λ (m : ℕ). slotsOf (m / 192) (splice c (i * 192) b)) (written-length c b i e h) ∙ slots-set (count c) c i h (div-mul-le-self (length c) 192)
 
 -- a key that is not held
 has-not : (x : Slot) (l : Slots) (k : Key) → slotHas x k ≡ false → look l k ≡ none → look (recOf x ∷ l) k ≡ none
@@ -116,15 +111,12 @@ recd o k x = some (record { key = k; cell = record { origin = o; value = x } })
 pub wrote-one : (c : List ℕ) (i o : ℕ) (k : Key) (x : Value) → i < count c → Kept o k x → slotsIn (putSlot c i o k x) ≡ set (slotsIn c) i (recd o k x)
 wrote-one c i o k x h w = slots-write (slotBytes o k x) (slot-length o k x) c i h ∙ ap (λ y. set (slotsIn c) i (recOf y)) (slot-back o k x w)
 
-count-one : (c : List ℕ) (i o : ℕ) (k : Key) (x : Value) → i < count c → count (putSlot c i o k x) ≡ count c
-count-one c i o k x h = ap (λ (n : ℕ). n / 192) (set-length (slotBytes o k x) (slot-length o k x) c i h)
-
 pub freed-one : (c : List ℕ) (i : ℕ) → i < count c → slotsIn (freeSlot c i) ≡ set (slotsIn c) i none
 freed-one c i h = slots-write (zeros 192) (zeros-length 192) c i h ∙ ap (λ z. set (slotsIn c) i (recOf z)) zero-slot
 
 module _ (c : List ℕ) (p po : ℕ) (pk : Key) (y : Value) (s : ℕ) (hp : p < count c) (hs : s < count c) (w : Kept po pk y) where
   in-put : s < count (putSlot c p po pk y)
-  in-put = subst (λ (n : ℕ). s < n) (sym (count-one c p po pk y hp)) hs
+  in-put = subst (λ (n : ℕ). s < n) (sym (put-count c p po pk y hp)) hs
 
   pub wrote-two : (o : ℕ) (k : Key) (x : Value) → Kept o k x → slotsIn (putSlot (putSlot c p po pk y) s o k x) ≡ set (set (slotsIn c) p (recd po pk y)) s (recd o k x)
   wrote-two o k x v = wrote-one (putSlot c p po pk y) s o k x in-put v ∙ ap (λ l. set l s (recd o k x)) (wrote-one c p po pk y hp w)

@@ -1,12 +1,12 @@
 -- Part 1 of demand 3, counting: lists alone, no verifier. Where adds and evicts have equal counts and equal sums, and no evict occurs twice,
 -- the adds are the evicts, or the tags of what was counted an odd number of times xor to zero.
-use mathlib.Core.Path.{_≡_, refl, sym, _∙_, ap, subst}
-use mathlib.Core.Logic.{_⊎_, inl, inr, _≢_, ite, if-pos, if-neg}
-use mathlib.Core.Bool.{Bool, true, false, not, true≢false, Bool·not-not}
+use mathlib.Core.Path.{_≡_, refl, sym, _∙_, ap}
+use mathlib.Core.Logic.{_⊎_, inl, inr, _≢_, ite}
+use mathlib.Core.Bool.{Bool, false, not, true≢false, Bool·not-not}
 use mathlib.Core.List.{List, [], _∷_, _++_, cons≢nil}
-use Prim.Native.Nat.{ℕ, zero, suc, _+_, _≤_, _<_}
+use Prim.Native.Nat.{ℕ, zero, suc, _+_, _≤_}
 use native.Mathlib.Omega.{arith}
-use lib.ListN.{length, length-append}
+use lib.ListN.{length}
 use Rattle.integrity.specs.Counting.{bump, odd, count, toggle, odds}
 
 -- the other where it is so

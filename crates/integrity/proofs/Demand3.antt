@@ -1,36 +1,31 @@
 -- Demand 3: the theorem. For every set key, lent cache, list of inputs and epoch, the statement of specs/Statement holds of the rules' step.
-use mathlib.Core.Path.{_≡_, refl, sym, _∙_, ap, subst}
-use mathlib.Core.Logic.{_⊎_, inl, inr}
-use mathlib.Core.Bool.{Bool, true, false, true≢false, false≢true}
+use mathlib.Core.Path.{_≡_, refl, sym, _∙_, subst}
+use mathlib.Core.Logic.{inl, inr}
+use mathlib.Core.Bool.{Bool, true, false}
 use mathlib.Core.Option.{none}
-use mathlib.Core.List.{List, [], _∷_, _++_, List·Memᴰ}
+use mathlib.Core.List.{List, [], _∷_, List·Memᴰ}
 use Prim.Native.Nat.{ℕ, _-_, _/_, _≤_}
-use native.Mathlib.Omega.{arith}
 use lib.ListN.{length}
 use Rattle.cmac.specs.declared.Tag.{Tag}
 use Rattle.key.specs.Keys.{isData}
-use Rattle.value.specs.Values.{valueBytes}
 use Rattle.value.specs.declared.Value.{Value}
 use Rattle.value.specs.declared.Value.the-variants.{None}
 use Rattle.value.proofs.Back.{value-inj}
 use Rattle.hash.specs.Hashes.{setKey, digestOf, tagOf}
-use Rattle.cache.specs.Caches.{count, wellLength, openedCache}
-use Rattle.state.specs.States.{freshState, zeroState, openDef, settledOf, settled}
-use Rattle.state.specs.declared.Old as old
-use Rattle.state.specs.declared.Old.the-variants.{Closed, Open}
-use Rattle.state.specs.declared.State.{State}
-use Rattle.rules.specs.Steps.{step}
+use Rattle.cache.specs.Caches.{wellLength, openedCache}
+use Rattle.state.specs.States.{freshState, zeroState, openDef, settled}
 use Rattle.integrity.specs.Statement.{Moment, fresh, run, taken, AnswersAgree, stood, Collision, TagsCancel, AllClosed, AllBytes, Holds, Demand3, SettledDemand3}
 use Rattle.integrity.proofs.Moves as moves
 use Rattle.integrity.proofs.History.{Cancels}
-use Rattle.integrity.proofs.Lane.{start, AllSay, lane-demand, opened-lane}
+use Rattle.integrity.proofs.Lane.{start, AllSay, lane-demand}
 use Rattle.integrity.proofs.Lane as lane
-use Rattle.integrity.proofs.Tallies.{tags, sum-is, OldIs, no-old, is-old}
+use Rattle.integrity.proofs.Tallies.{tags, sum-is}
 use Rattle.integrity.proofs.Opened.{opened-stands}
 use Rattle.integrity.proofs.Settled.{settled-is, closed-settled}
 use Rattle.integrity.proofs.Refused.{step-short}
-use Rattle.integrity.proofs.Replay.{first-stood, AgreeAll, each-agrees, Replayed, Replay, held-stood, replay}
-use Rattle.integrity.proofs.Stood.{Sound, same-sha}
+use Rattle.integrity.proofs.Replay.{first-stood, AgreeAll, each-agrees, Replay, held-stood, replay}
+use Rattle.integrity.proofs.Messages.{none-well, odd-apart}
+use Rattle.integrity.proofs.Stood.{same-sha}
 
 -- ---- from a fresh state and an opened cache
 
@@ -67,7 +62,7 @@ module _ (key : List ℕ) (n : ℕ) (ws : List (List ℕ)) where
   unfolding tags
   cancel p e x =
       let y = rw (p .ads, p .evs) at (x .3) in
-      record { epoch = x .0; first = x .1; last = x .2; some-odd = y .0; cancel = sym (sum-is (setKey key) _) ∙ y .1 }
+      record { epoch = x .0; first = x .1; last = x .2; some-odd = y .0; apart = odd-apart (x .0) _ _ (p .ads-well none-well) (p .evs-well none-well); cancel = sym (sum-is (setKey key) _) ∙ y .1 }
 
   agrees : (p : Whole) (e : ℕ) → AllSay digestOf isData Tag tags (tagOf (setKey key)) e (p .whole) → AnswersAgree e begin ws
   agrees p e a before w rest q h = each-agrees e begin (λ k. None) before w rest (subst (λ l. AgreeAll e begin (λ k. None) l) q (p .agree e a .0)) h

@@ -1,18 +1,23 @@
--- The chain of theorems from the rules of a step to demand 3. Each file says which part it is.
+-- The chain of theorems from the rules of a step to demand 3. Each file says in its first lines which part it is.
+
+-- part 1, counting
 pub mod Counting
+-- keys, values, functions of keys
 pub mod Updates
 pub mod Ancestors
 pub mod Records
+-- part 3, the tree
 pub mod Skeleton
 pub mod OneKey
 pub mod Tree
 pub mod Moves
+-- part 2, order and bookkeeping
 pub mod History
 pub mod Lane
+-- refinement: from bytes to accepted steps
 pub mod Slots
 pub mod Caches
 pub mod Tallies
-pub mod Written
 pub mod Refines
 pub mod RefineAdds
 pub mod RefineEvicts
@@ -20,9 +25,12 @@ pub mod RefineAnswers
 pub mod RefineEpochs
 pub mod Refused
 pub mod Stood
+pub mod Messages
 pub mod Opened
 pub mod Replay
 pub mod Settled
+-- the theorem, and what shows that it says neither more nor less
 pub mod Demand3
+pub mod RunOver
 pub mod Traps
 pub mod AnswerEpoch

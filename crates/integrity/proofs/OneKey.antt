@@ -1,12 +1,12 @@
--- What holds of one key: where it lives, and what the links to it and its messages say.
-use mathlib.Core.Path.{_≡_, refl, sym, _∙_, ap, subst}
+-- Part 3 of demand 3, what holds of one key: where it lives, and what the links to it and its outstanding messages say; each way a key moves
+-- keeps it.
+use mathlib.Core.Path.{_≡_, refl, sym, _∙_, ap}
 use mathlib.Core.Logic.{_⊎_, inl, inr, _≢_}
 use mathlib.Core.Bool.{Bool, true, false, true≢false, false≢true, cond}
 use mathlib.Core.Option.{Option, none, some, Option·none-ne-some, Option·some-ne-none, Option·some-injective}
-use mathlib.Core.List.{List, [], _∷_}
 use native.Mathlib.Omega.{arith}
 use Rattle.integrity.proofs.Ancestors.{Key}
-use Rattle.integrity.proofs.Records.{Digest, Side, empty, link, Value, vnone, print, node, bare, Origin, fromTree, fromDeferred, Cell, Message, sideOf, IsNode}
+use Rattle.integrity.proofs.Records.{Digest, Value, vnone, bare, fromTree, fromDeferred, Cell, Message, IsNode}
 
 not-deferred : fromTree ≡ fromDeferred → ⊥
 not-deferred e = omega arith

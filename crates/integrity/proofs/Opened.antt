@@ -1,13 +1,11 @@
 -- Refinement, opening: a fresh state and an opened cache stand for the opened lane.
 use mathlib.Core.Path.{_≡_, refl, sym, _∙_, ap, subst}
-use mathlib.Core.Bool.{true}
-use mathlib.Core.Option.{Option, none, some}
-use mathlib.Core.List.{List, [], _∷_, _++_}
-use Prim.Native.Nat.{ℕ, zero, suc, _+_, _*_, _/_, _≤_, _<_}
-use native.Mathlib.Nat.{zero-add}
+use mathlib.Core.Option.{none, some}
+use mathlib.Core.List.{List, _∷_}
+use Prim.Native.Nat.{ℕ, zero, suc, _*_, _-_, _/_, _<_}
 use native.Mathlib.Omega.{arith}
 use lib.Dec.{lit<}
-use lib.ListN.{length, length-append, replicate, take, drop}
+use lib.ListN.{length, length-append, replicate}
 use lib.Seq.{take-at, drop-at}
 use Rattle.words.specs.Numbers.{zeros, Bytes}
 use Rattle.words.proofs.Laws.{append-bytes, zeros-length}
@@ -15,19 +13,17 @@ use Rattle.cmac.specs.declared.Tag.{Tag}
 use Rattle.key.specs.Keys.{rootKey, isData, wellKey, clean}
 use Rattle.hash.specs.Hashes.{setKey, digestOf, tagOf}
 use Rattle.slot.specs.Slots.{slotBytes, tree}
-use Rattle.slot.proofs.Laws.{slot-length}
+use Rattle.slot.proofs.Laws.{take-zeros, drop-zeros, slot-length, zeros-bytes, slot-bytes}
 use Rattle.slot.proofs.Back.{Kept, zero-slot, slot-back}
 use Rattle.cache.specs.Caches.{count, openedCache}
 use Rattle.state.specs.States.{freshState}
 use Rattle.integrity.specs.Statement.{ofEpoch}
-use Rattle.integrity.proofs.Ancestors.{Key}
 use Rattle.integrity.proofs.Updates.{upd}
 use Rattle.integrity.proofs.Counting.{sum}
-use Rattle.integrity.proofs.Records.{bare, fromTree, Cell}
-use Rattle.integrity.proofs.Slots.{Rec, Slots, look, Unique}
-use Rattle.integrity.proofs.Caches.{recOf, slotsOf, slotsIn, recd}
+use Rattle.integrity.proofs.Records.{bare, fromTree}
+use Rattle.integrity.proofs.Slots.{look, Unique}
+use Rattle.integrity.proofs.Caches.{slotsOf, slotsIn, recd}
 use Rattle.integrity.proofs.Tallies.{tags, no-old}
-use Rattle.integrity.proofs.Written.{zero-bytes, slot-bytes}
 use Rattle.integrity.proofs.Lane.{opened-lane}
 use Rattle.integrity.proofs.Refines.{bare-good, Stands}
 
@@ -41,19 +37,12 @@ unfolding Unique
 unique-blank zero = tt
 unique-blank (suc n) = unique-blank n
 
--- so many zeros, and then so many more
-zeros-more : (m n : ℕ) → zeros (m + n) ≡ zeros m ++ zeros n
-unfolding zeros
-zeros-more zero n = rw zero-add
-zeros-more (suc m) n = let f : suc m + n ≡ suc (m + n) = omega arith in rw f (ap (λ l. 0 ∷ l) (zeros-more m n))
-
 blank-slots : (n : ℕ) → slotsOf n (zeros (n * 192)) ≡ replicate n none
 unfolding slotsOf
 blank-slots zero = refl
 blank-slots (suc n) =
-    let f : suc n * 192 ≡ 192 + n * 192 = omega arith in
-    let s : zeros (suc n * 192) ≡ zeros 192 ++ zeros (n * 192) = ap zeros f ∙ zeros-more 192 (n * 192) in
-    rw (s, take-at (zeros 192) (zeros (n * 192)) 192 (zeros-length 192), drop-at (zeros 192) (zeros (n * 192)) 192 (zeros-length 192), zero-slot, blank-slots n)
+    let f : suc n * 192 - 192 ≡ n * 192 = omega arith in
+    rw (take-zeros 192 (suc n * 192) (omega arith), drop-zeros 192 (suc n * 192), f, zero-slot, blank-slots n)
 
 root-kept : Kept tree rootKey bare
 unfolding wellKey clean
@@ -78,7 +67,7 @@ opened-slots n =
 
 opened-bytes : (n : ℕ) → Bytes (openedCache n)
 unfolding openedCache
-opened-bytes n = append-bytes (slotBytes tree rootKey bare) (zeros (n * 192)) (slot-bytes tree rootKey bare (omega arith)) (zero-bytes (n * 192))
+opened-bytes n = append-bytes (slotBytes tree rootKey bare) (zeros (n * 192)) (slot-bytes tree rootKey bare (omega arith)) (zeros-bytes (n * 192))
 
 pub opened-stands : (key : List ℕ) (n : ℕ)
     → Stands (setKey key) (freshState key) (openedCache n) (opened-lane digestOf isData Tag tags (tagOf (setKey key)))

@@ -1,16 +1,12 @@
--- Values, cells and messages.
-use mathlib.Core.Path.{_≡_, refl, sym, _∙_, ap, subst}
-use mathlib.Core.Logic.{_⊎_, inl, inr, _≢_}
-use mathlib.Core.Bool.{Bool, true, false, Bool-discrete, cond}
+-- Values as nodes with sides, and the cells that a cache holds.
+use mathlib.Core.Path.{_≡_, refl, ap}
+use mathlib.Core.Bool.{Bool, true, false}
 use mathlib.Core.Option.{Option, none, some, Option·none-ne-some, Option·some-injective}
-use mathlib.Core.List.{List, [], _∷_}
 use Prim.Native.Nat.{ℕ}
-use native.Mathlib.Decide.{ℕ-discrete}
-use Rattle.value.specs.declared.Node.{Node}
 use Rattle.value.specs.Values as value
 pub use Rattle.message.specs.declared.Message.{Message}
 use Rattle.integrity.proofs.Ancestors.{Key}
-use Rattle.integrity.proofs.Updates.{On, on, off, onSide, pickS}
+use Rattle.integrity.proofs.Updates.{On, on, off, pickS}
 pub use Rattle.value.specs.declared.Digest.{Digest}
 pub use Rattle.value.specs.declared.Side.{Side}
 pub use Rattle.value.specs.declared.Side.the-variants.{Empty as empty, Link as link}

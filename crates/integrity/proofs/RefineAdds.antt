@@ -1,13 +1,13 @@
 -- Refinement of entries 1 (add from tree) and 2 (add deferred).
 use mathlib.Core.Path.{_≡_, refl, sym, _∙_, ap, subst}
 use mathlib.Core.Bool.{Bool, true, false, cond}
-use mathlib.Core.Option.{Option, none, some}
-use mathlib.Core.List.{List, [], _∷_, List·Memᴰ·head}
-use Prim.Native.Nat.{ℕ, zero, suc, _+_, _-_, _*_, _≤_, _<_}
+use mathlib.Core.Option.{none, some}
+use mathlib.Core.List.{List, _∷_, List·Memᴰ·head}
+use Prim.Native.Nat.{ℕ, suc, _-_, _*_, _≤_, _<_}
 use native.Mathlib.Omega.{arith}
 use lib.Dec.{eqb, leb}
 use borrow.Author.Tests.{eqb-true, leb-false, leb-true, ne-eqb}
-use Rattle.words.specs.Choice.{pick, both}
+use Rattle.words.specs.Choice.{pick}
 use Rattle.words.proofs.Laws.{picked, both-true}
 use Rattle.verdict.specs.Verdicts.{notWell, noSlot, slotTaken, slotEmpty, keyHeld, wrongKind, noAncestor, otherBranch, markedDeferred, digestDiffers, notFirst, epochNotOpen, timeOutOfRange, countFull}
 use Rattle.cmac.specs.declared.Tag.{Tag}
@@ -22,32 +22,32 @@ use Rattle.message.specs.declared.Time.{Time}
 use Rattle.entry.specs.declared.Entry.{Entry}
 use Rattle.entry.specs.declared.Entry.the-variants.{AddTree, AddDeferred}
 use Rattle.hash.specs.Hashes.{digestOf, tagOf}
+use Rattle.hash.proofs.Laws.{digest-of-fits}
 use Rattle.hash.specs.declared.SetKey.{SetKey}
 use Rattle.slot.specs.Slots.{slotBytes, tree, deferred}
 use Rattle.slot.specs.declared.Slot.{Slot}
 use Rattle.slot.specs.declared.Slot.the-variants as sl
+use Rattle.slot.proofs.Laws.{slot-bytes}
 use Rattle.slot.proofs.Back.{Kept}
 use Rattle.cache.specs.Caches.{slotIn, count, putSlot, held}
+use Rattle.cache.proofs.Slots.{splice-bytes}
 use Rattle.state.specs.States.{countLimit, addedCurrent, addedOld}
 use Rattle.state.specs.declared.Tally.{Tally}
 use Rattle.state.specs.declared.Old as old
 use Rattle.state.specs.declared.Old.the-variants.{Closed, Open}
 use Rattle.state.specs.declared.State.{State}
-use Rattle.rules.specs.Outcomes.{Outcome, refuses, accepts}
+use Rattle.rules.specs.Outcomes.{refuses, accepts}
 use Rattle.rules.specs.Adds.{linked, between, addSide, addLink, addNode, addTo, addUnder, addAt, addTree, namedOld, namedEpoch, addMessage, inTime, addCounted, addNamed, addInto, deferAt, addDeferred}
-use Rattle.rules.specs.declared.Named.{Named}
 use Rattle.rules.specs.declared.Named.the-variants as named
-use Rattle.integrity.specs.Statement.{Moment}
 use Rattle.integrity.proofs.Ancestors.{Key, Below, below-length, well}
 use Rattle.integrity.proofs.Updates.{upd, upd2}
-use Rattle.integrity.proofs.Records.{Side, empty, link, Value, vnone, print, node, bare, Cell, Message, setSide}
+use Rattle.integrity.proofs.Records.{Side, empty, link, Value, vnone, print, node, bare, Message, setSide}
 use Rattle.integrity.proofs.Moves.{add-same, add-empty, add-split}
 use Rattle.integrity.proofs.Moves as moves
 use Rattle.integrity.proofs.Lane.{Lane, EpochOpen, current, older, quiet, adding, move}
 use Rattle.integrity.proofs.Slots.{Unique, look, unique-add}
 use Rattle.integrity.proofs.Caches.{slotsIn, wrote-one, wrote-two}
-use Rattle.integrity.proofs.Tallies.{tags, Tallies, OldIs, no-old, is-old, tallies-add-current, tallies-add-old}
-use Rattle.integrity.proofs.Written.{slot-bytes, splice-bytes, digest-of-fits}
+use Rattle.integrity.proofs.Tallies.{Tallies, OldIs, no-old, is-old, tallies-add-current, tallies-add-old}
 use Rattle.integrity.proofs.Refines.{first-is, side-good, side-fits, with-good, with-fits, link-good, good-link, bare-good, below-differ, cache-add, both-add, uniq-add, Takes, onward, Stands, Refined, stop, nope, yep, done, full, free, cached, in-list, kept, missing, absent-key}
 
 module _ (key : SetKey) (st : State) (c : List ℕ) (t : Lane) (R : Stands key st c t) (st′ : State) (c′ : List ℕ) where
@@ -96,7 +96,7 @@ module _ (key : SetKey) (st : State) (c : List ℕ) (t : Lane) (R : Stands key s
         let z = wrote-two c p o pk y s hp hs hy tree k w (record { low = omega arith; high = omega arith; key = wk; value = ww; key-fits = kf; value-fits = wf }) in
         rw e (record {
           set-key = R .set-key;
-          bytes = splice-bytes (putSlot c p o pk y) (s * 192) (slotBytes tree k w) (splice-bytes c (p * 192) (slotBytes o pk y) (R .bytes) (slot-bytes o pk y (hold .high))) (slot-bytes tree k w (omega arith));
+          bytes = splice-bytes (putSlot c p o pk y) (slotBytes tree k w) (s * 192) (splice-bytes c (slotBytes o pk y) (p * 192) (R .bytes) (slot-bytes o pk y (omega (arith, hold .high)))) (slot-bytes tree k w (omega arith));
           uniq = subst Unique (sym z) (uniq-add (slotsIn c) (t .cache) (R .uniq) (R .cache) p _ (full key st c t R st′ c′ p hp o pk (node n) fp) _ s _ (in-list key st c t R st′ c′ s hs) (free key st c t R st′ c′ s hs fs) gone (below-differ bel));
           cache = ap look z ∙ both-add (slotsIn c) (t .cache) (R .uniq) (R .cache) p _ (full key st c t R st′ c′ p hp o pk (node n) fp) _ s _ (in-list key st c t R st′ c′ s hs) (free key st c t R st′ c′ s hs fs) gone (below-differ bel);
           tallies = R .tallies;
@@ -118,7 +118,7 @@ module _ (key : SetKey) (st : State) (c : List ℕ) (t : Lane) (R : Stands key s
             (move (add-same pk k (toward pk k) (record { origin = o; value = node n }) ld x at-p at-k bel (l ∙ ap (λ y. link y ld lm) (keyEq-true lk k q) ∙ ap (link k ld) m) (sym (digestEq-true ld (digestOf x) g))) quiet) e
             (record {
               set-key = R .set-key;
-              bytes = splice-bytes c (s * 192) (slotBytes tree k x) (R .bytes) (slot-bytes tree k x (omega arith));
+              bytes = splice-bytes c (slotBytes tree k x) (s * 192) (R .bytes) (slot-bytes tree k x (omega arith));
               uniq = subst Unique (sym z) (unique-add (slotsIn c) s _ (in-list key st c t R st′ c′ s hs) (R .uniq) (free key st c t R st′ c′ s hs fs) gone);
               cache = ap look z ∙ cache-add (slotsIn c) (t .cache) (R .uniq) (R .cache) s _ (in-list key st c t R st′ c′ s hs) (free key st c t R st′ c′ s hs fs) gone;
               tallies = R .tallies;
@@ -180,7 +180,7 @@ module _ (key : SetKey) (st : State) (c : List ℕ) (t : Lane) (R : Stands key s
         let z = wrote-one c s deferred k x h (record { low = omega arith; high = omega arith; key = wk; value = wx; key-fits = kf; value-fits = xf }) in
         record {
           set-key = kk;
-          bytes = splice-bytes c (s * 192) (slotBytes deferred k x) (R .bytes) (slot-bytes deferred k x (omega arith));
+          bytes = splice-bytes c (slotBytes deferred k x) (s * 192) (R .bytes) (slot-bytes deferred k x (omega arith));
           uniq = subst Unique (sym z) (unique-add (slotsIn c) s _ (in-list key st c t R st′ c′ s h) (R .uniq) (free key st c t R st′ c′ s h fs) lost);
           cache = ap look z ∙ cache-add (slotsIn c) (t .cache) (R .uniq) (R .cache) s _ (in-list key st c t R st′ c′ s h) (free key st c t R st′ c′ s h fs) lost ∙ sym q;
           tallies = T;

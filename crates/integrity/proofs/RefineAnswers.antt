@@ -1,15 +1,14 @@
 -- Refinement of entries 6 (get), 7 (absent) and 8 (put).
 use mathlib.Core.Path.{_≡_, refl, sym, _∙_, ap, subst}
-use mathlib.Core.Bool.{Bool, true, false, true≢false, false≢true}
-use mathlib.Core.Option.{Option, none, some, Option·none-ne-some, Option·some-injective}
-use mathlib.Core.List.{List, [], _∷_, List·Memᴰ·head}
-use Prim.Native.Nat.{ℕ, zero, suc, _+_, _*_, _≤_, _<_}
+use mathlib.Core.Bool.{true, false, true≢false}
+use mathlib.Core.Option.{some, Option·none-ne-some, Option·some-injective}
+use mathlib.Core.List.{List, List·Memᴰ·head}
+use Prim.Native.Nat.{ℕ, _*_, _<_}
 use native.Mathlib.Omega.{arith}
 use lib.Dec.{leb}
 use borrow.Author.Tests.{leb-false}
-use Rattle.words.specs.Choice.{pick}
 use Rattle.verdict.specs.Verdicts.{notWell, noSlot, slotEmpty, wrongKind, otherKey, noAncestor, valueDiffers, absenceNotShown}
-use Rattle.key.specs.Keys.{isData, wellKey, keyEq, above, toward, KeyFits}
+use Rattle.key.specs.Keys.{isData, wellKey, keyEq, above, toward}
 use Rattle.key.proofs.Laws.{keyEq-true, keyEq-refl}
 use Rattle.value.specs.Values as value
 use Rattle.value.specs.Values.{isNode, valueEq, wellValue, ValueFits}
@@ -20,21 +19,21 @@ use Rattle.entry.specs.declared.Entry.the-variants.{Get, Absent, Put}
 use Rattle.hash.specs.declared.SetKey.{SetKey}
 use Rattle.slot.specs.Slots.{slotBytes}
 use Rattle.slot.specs.declared.Slot.{Slot}
+use Rattle.slot.proofs.Laws.{slot-bytes}
 use Rattle.slot.specs.declared.Slot.the-variants as sl
-use Rattle.slot.proofs.Back.{Kept}
 use Rattle.cache.specs.Caches.{slotIn, count, putSlot}
+use Rattle.cache.proofs.Slots.{splice-bytes}
 use Rattle.state.specs.declared.State.{State}
-use Rattle.rules.specs.Outcomes.{Outcome, refuses, accepts}
+use Rattle.rules.specs.Outcomes.{accepts}
 use Rattle.rules.specs.Answers as rules
 use Rattle.rules.specs.Answers.{getSlot, absentSide, absentNode, absentSlot, putInto}
 use Rattle.integrity.proofs.Ancestors.{Key, Pre, pre-same, pre-up, Below}
-use Rattle.integrity.proofs.Records.{Side, empty, link, Value, vnone, print, node, Cell, IsNode, keyOf}
+use Rattle.integrity.proofs.Records.{Side, empty, link, Value, vnone, print, node, IsNode, keyOf}
 use Rattle.integrity.proofs.Moves as moves
 use Rattle.integrity.proofs.Lane.{Lane, quiet, move}
 use Rattle.integrity.proofs.Slots.{Unique, look, unique-write}
-use Rattle.integrity.proofs.Caches.{slotsIn, recd, wrote-one}
-use Rattle.integrity.proofs.Written.{slot-bytes, splice-bytes}
-use Rattle.integrity.proofs.Refines.{put-is, cache-write, Takes, onward, Stands, Refined, stop, nope, yep, done, full, cached, kept}
+use Rattle.integrity.proofs.Caches.{slotsIn, wrote-one}
+use Rattle.integrity.proofs.Refines.{put-is, cache-write, Stands, Refined, stop, nope, yep, done, full, cached, kept}
 
 -- no node
 not-node : (x : Value) → isNode x ≡ false → IsNode x → ⊥
@@ -112,7 +111,7 @@ module _ (key : SetKey) (st : State) (c : List ℕ) (t : Lane) (R : Stands key s
           done key st c t R st′ c′ (Put s k x) _ _ (move (moves.put k (record { origin = o; value = y }) x (cached key st c t R st′ c′ s h o k y w) dk (not-node x n)) quiet) e
           (record {
             set-key = R .set-key;
-            bytes = splice-bytes c (s * 192) (slotBytes o k x) (R .bytes) (slot-bytes o k x (old .high));
+            bytes = splice-bytes c (slotBytes o k x) (s * 192) (R .bytes) (slot-bytes o k x (omega (arith, old .high)));
             uniq = subst Unique (sym z) (unique-write (slotsIn c) s _ (record { origin = o; value = x }) (R .uniq) u);
             cache = ap look z ∙ cache-write (slotsIn c) (t .cache) (R .uniq) (R .cache) s _ (record { origin = o; value = x }) u;
             tallies = R .tallies;

@@ -1,12 +1,11 @@
 -- Refinement of entries 9 (advance) and 10 (close).
-use mathlib.Core.Path.{_≡_, refl, sym, _∙_, ap, subst}
-use mathlib.Core.Bool.{Bool, true, false, true≢false}
-use mathlib.Core.List.{List, [], _∷_}
-use Prim.Native.Nat.{ℕ, zero, suc, _+_, _≤_, _<_}
+use mathlib.Core.Path.{_≡_, refl, sym, _∙_, ap}
+use mathlib.Core.Bool.{true, false, true≢false}
+use mathlib.Core.List.{List}
+use Prim.Native.Nat.{ℕ}
 use native.Mathlib.Omega.{arith}
 use lib.Dec.{eqb, leb}
 use borrow.Author.Tests.{eqb-true, eq-eqb}
-use Rattle.words.specs.Choice.{pick}
 use Rattle.words.proofs.Laws.{picked}
 use Rattle.verdict.specs.Verdicts.{accepted, epochFull, wrongMoment, countsDiffer, sumsDiffer}
 use Rattle.cmac.specs.Tags.{tagEq}
@@ -26,7 +25,7 @@ use Rattle.rules.specs.declared.Done as done
 use Rattle.integrity.proofs.Lane as lane
 use Rattle.integrity.proofs.Lane.{Lane}
 use Rattle.integrity.proofs.Tallies.{OldIs, no-old, is-old, tallies-close, tallies-advance}
-use Rattle.integrity.proofs.Refines.{Takes, onward, Stands, Refined}
+use Rattle.integrity.proofs.Refines.{Stands, Refined}
 use Rattle.integrity.proofs.Refines as refines
 
 module _ (key : SetKey) (st : State) (c : List ℕ) (t : Lane) (R : Stands key st c t) (st′ : State) (c′ : List ℕ) where

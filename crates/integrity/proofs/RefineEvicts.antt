@@ -1,15 +1,14 @@
 -- Refinement of entries 3 (evict to tree), 4 (evict deferred) and 5 (evict tree record deferred).
 use mathlib.Core.Path.{_≡_, refl, sym, _∙_, ap, subst}
 use mathlib.Core.Bool.{Bool, true, false}
-use mathlib.Core.Option.{Option, none, some}
-use mathlib.Core.List.{List, [], _∷_, _++_}
-use Prim.Native.Nat.{ℕ, zero, suc, _+_, _*_, _≤_, _<_}
+use mathlib.Core.Option.{none, some}
+use mathlib.Core.List.{List, _∷_, _++_}
+use Prim.Native.Nat.{ℕ, suc, _+_, _*_, _<_}
 use native.Mathlib.Numerals.{add-one}
 use native.Mathlib.Omega.{arith}
 use lib.Dec.{eqb, leb}
 use borrow.Author.Tests.{eqb-true, leb-false}
-use Rattle.words.specs.Choice.{pick}
-use Rattle.words.specs.Numbers.{zeros, Bytes}
+use Rattle.words.specs.Numbers.{zeros}
 use Rattle.verdict.specs.Verdicts.{notWell, noSlot, slotEmpty, wrongKind, noAncestor, noLink, wrongOrigin, rootSlot, countFull}
 use Rattle.key.specs.Keys.{keyEq, above, toward}
 use Rattle.key.proofs.Laws.{keyEq-true}
@@ -19,26 +18,28 @@ use Rattle.value.specs.declared.Node.{Node}
 use Rattle.entry.specs.declared.Entry.{Entry}
 use Rattle.entry.specs.declared.Entry.the-variants.{EvictTree, EvictDeferred, EvictTreeDeferred}
 use Rattle.hash.specs.Hashes.{digestOf, tagOf}
+use Rattle.hash.proofs.Laws.{digest-of-fits}
 use Rattle.hash.specs.declared.SetKey.{SetKey}
 use Rattle.slot.specs.Slots.{slotBytes, tree, deferred}
 use Rattle.slot.specs.declared.Slot.{Slot}
 use Rattle.slot.specs.declared.Slot.the-variants as sl
+use Rattle.slot.proofs.Laws.{zeros-bytes, slot-bytes}
 use Rattle.slot.proofs.Back.{Kept}
-use Rattle.cache.specs.Caches.{slotIn, count, putSlot, freeSlot}
+use Rattle.cache.specs.Caches.{slotIn, count, putSlot}
+use Rattle.cache.proofs.Slots.{splice-bytes}
 use Rattle.state.specs.States.{countLimit, evictedState, evictMessage, evicted}
 use Rattle.state.specs.declared.State.{State}
-use Rattle.rules.specs.Outcomes.{Outcome, refuses, accepts}
+use Rattle.rules.specs.Outcomes.{accepts}
 use Rattle.rules.specs.Evicts.{unlinked, toTree, toDeferred, evictAs, evictSide, evictLink, evictNode, evictTo, evictUnder, evictAt, evictBy, deferredAt, evictDeferred}
-use Rattle.integrity.specs.Statement.{Moment, leaving}
+use Rattle.integrity.specs.Statement.{leaving}
 use Rattle.integrity.proofs.Ancestors.{Key, Below, below-length}
 use Rattle.integrity.proofs.Updates.{upd2}
-use Rattle.integrity.proofs.Records.{Digest, Side, empty, link, Value, vnone, print, node, Cell, Message, setSide}
+use Rattle.integrity.proofs.Records.{Digest, Side, empty, link, Value, vnone, print, node, Message, setSide}
 use Rattle.integrity.proofs.Moves as moves
 use Rattle.integrity.proofs.Lane.{Lane, quiet, evicting, move}
 use Rattle.integrity.proofs.Slots.{Unique, look, unique-clear}
 use Rattle.integrity.proofs.Caches.{slotsIn, freed-one, wrote-free}
 use Rattle.integrity.proofs.Tallies.{Tallies, tallies-evict}
-use Rattle.integrity.proofs.Written.{zero-bytes, slot-bytes, splice-bytes, digest-of-fits}
 use Rattle.integrity.proofs.Refines.{side-fits, with-good, with-fits, good-link, below-differ, cache-clear, both-clear, uniq-clear, Takes, onward, Stands, Refined, stop, nope, yep, done, full, cached, kept}
 
 -- 3 or 5, by the Bool under which the rules share them
@@ -111,7 +112,7 @@ module _ (key : SetKey) (st : State) (c : List ℕ) (t : Lane) (R : Stands key s
         let z = wrote-free c p po pk y s hp hs hy in
         record {
           set-key = q;
-          bytes = splice-bytes (putSlot c p po pk y) (s * 192) (zeros 192) (splice-bytes c (p * 192) (slotBytes po pk y) (R .bytes) (slot-bytes po pk y (under .high))) (zero-bytes 192);
+          bytes = splice-bytes (putSlot c p po pk y) (zeros 192) (s * 192) (splice-bytes c (slotBytes po pk y) (p * 192) (R .bytes) (slot-bytes po pk y (omega (arith, under .high)))) (zeros-bytes 192);
           uniq = subst Unique (sym z) (uniq-clear (slotsIn c) (t .cache) (R .uniq) (R .cache) p _ (full key st c t R st′ c′ p hp po pk (node n) fp) _ s _ (full key st c t R st′ c′ s hs o k x fs) (below-differ lies));
           cache = ap look z ∙ both-clear (slotsIn c) (t .cache) (R .uniq) (R .cache) p _ (full key st c t R st′ c′ p hp po pk (node n) fp) _ s _ (full key st c t R st′ c′ s hs o k x fs) (below-differ lies) ∙ sym e;
           tallies = T;
@@ -185,7 +186,7 @@ module _ (key : SetKey) (st : State) (c : List ℕ) (t : Lane) (R : Stands key s
           (move (moves.evict-deferred (leaves k x) (record { origin = o; value = x }) (cached key st c t R st′ c′ s hs o k x w) (eqb-true _ _ f) refl) (evicting (leaves k x) (epoch-is k x) (time-is k x))) e
           (record {
             set-key = set-is k x;
-            bytes = splice-bytes c (s * 192) (zeros 192) (R .bytes) (zero-bytes 192);
+            bytes = splice-bytes c (zeros 192) (s * 192) (R .bytes) (zeros-bytes 192);
             uniq = subst Unique (sym z) (unique-clear (slotsIn c) s _ (R .uniq) u);
             cache = ap look z ∙ cache-clear (slotsIn c) (t .cache) (R .uniq) (R .cache) s _ u;
             tallies = tallied k x;

@@ -3,8 +3,8 @@ use mathlib.Core.Path.{_≡_, refl, sym, _∙_, ap, subst, fun-ext}
 use mathlib.Core.Logic.{_≢_}
 use mathlib.Core.Bool.{Bool, true, false, true≢false, false≢true, cond}
 use mathlib.Core.Option.{Option, none, some, Option·none-ne-some, Option·some-injective}
-use mathlib.Core.List.{List, [], _∷_, _++_, List·Memᴰ}
-use Prim.Native.Nat.{ℕ, zero, suc, _+_, _*_, _≤_, _<_}
+use mathlib.Core.List.{List, _++_, List·Memᴰ}
+use Prim.Native.Nat.{ℕ, _+_, _*_, _<_}
 use lib.ListN.{length, set, length-set}
 use lib.Seq.{getD-set-other}
 use lib.Dec.{eqb, ltb}
@@ -13,21 +13,20 @@ use Rattle.words.specs.Choice.{pick, no}
 use Rattle.words.specs.Numbers.{Bytes}
 use Rattle.words.proofs.Laws.{both-true, true-both, part-bytes}
 use Rattle.cmac.specs.declared.Tag.{Tag}
-use Rattle.key.specs.Keys.{isData, keyEq, wellKey, KeyFits}
+use Rattle.key.specs.Keys.{isData, keyEq, wellKey}
 use Rattle.key.proofs.Laws.{keyEq-true, keyEq-refl}
 use Rattle.value.specs.Values as value
-use Rattle.value.specs.Values.{isNode, isFirst, bothEmpty, bareNode, withSide, wellSide, wellValue, DigestFits, SideFits, ValueFits}
+use Rattle.value.specs.Values.{isNode, isFirst, bothEmpty, withSide, wellSide, wellValue, SideFits, ValueFits}
 use Rattle.value.specs.declared.Node.{Node}
 use Rattle.entry.specs.declared.Entry.{Entry}
 use Rattle.hash.specs.Hashes.{digestOf, tagOf}
 use Rattle.hash.specs.declared.SetKey.{SetKey}
-use Rattle.slot.specs.declared.Slot.{Slot}
 use Rattle.slot.specs.declared.Slot.the-variants as sl
 use Rattle.slot.proofs.Back.{Kept, slot-kept}
 use Rattle.cache.specs.Caches.{slotIn, count, held}
 use Rattle.state.specs.declared.State.{State}
 use Rattle.rules.specs.Outcomes.{Outcome, refuses, accepts}
-use Rattle.integrity.specs.Statement.{Moment, putBy, Agrees, valueIn, addedBy, evictedBy}
+use Rattle.integrity.specs.Statement.{putBy, Agrees, valueIn, addedBy, evictedBy}
 use Rattle.integrity.proofs.Ancestors.{Key, Pre, pre-refl, Below, below-not-back}
 use Rattle.integrity.proofs.Updates.{Is, is, isnt, view, upd, upd-other, upd2}
 use Rattle.integrity.proofs.Updates as updates

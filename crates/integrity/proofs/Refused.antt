@@ -1,10 +1,11 @@
 -- A refused entry leaves the state and every byte of the cache as they were: for each entry, and for a step on any bytes.
-use mathlib.Core.Path.{_≡_, refl, sym, _∙_, ap}
-use mathlib.Core.Bool.{Bool, true, false, true≢false, false≢true}
-use mathlib.Core.List.{List, [], _∷_}
-use Prim.Native.Nat.{ℕ, _+_, _-_}
+use mathlib.Core.Path.{_≡_, refl, ap}
+use mathlib.Core.Bool.{Bool, true, false}
+use mathlib.Core.List.{List}
+use Prim.Native.Nat.{ℕ, _-_}
 use lib.Dec.{eqb, leb}
-use Rattle.words.specs.Choice.{pick, both}
+use Rattle.words.specs.Choice.{pick}
+use Rattle.words.proofs.Laws.{both-true}
 use Rattle.verdict.specs.Verdicts.{accepted, notWell, malformed, short, noSlot, slotTaken, slotEmpty, keyHeld, wrongKind, otherKey, noAncestor, noLink, otherBranch, markedDeferred, digestDiffers, notFirst, wrongOrigin, rootSlot, epochNotOpen, timeOutOfRange, countFull, epochFull, wrongMoment, countsDiffer, sumsDiffer, valueDiffers, absenceNotShown, wrongCache}
 use Rattle.cmac.specs.Tags.{tagEq}
 use Rattle.key.specs.Keys.{keyEq, above, toward}
@@ -26,14 +27,14 @@ use Rattle.hash.specs.Hashes.{digestOf}
 use Rattle.slot.specs.Slots.{tree, deferred}
 use Rattle.slot.specs.declared.Slot.{Slot}
 use Rattle.slot.specs.declared.Slot.the-variants as sl
-use Rattle.cache.specs.Caches.{slotIn, count, held, wellLength}
-use Rattle.state.specs.States.{countLimit, epochLimit}
+use Rattle.cache.specs.Caches.{slotIn, count, held, wellLength, wellCache}
+use Rattle.state.specs.States.{countLimit, epochLimit, wellState}
 use Rattle.state.specs.declared.Old as old
 use Rattle.state.specs.declared.Old.the-variants.{Closed, Open}
 use Rattle.state.specs.declared.State.{State}
 use Rattle.rules.specs.Outcomes.{Outcome, outcome, refuses, accepts}
-use Rattle.rules.specs.Adds.{addSide, addLink, addNode, addTo, addUnder, addAt, addTree, namedEpoch, inTime, addCounted, addNamed, addInto, deferAt, addDeferred}
-use Rattle.rules.specs.Evicts.{evictAs, evictSide, evictLink, evictNode, evictTo, evictUnder, evictAt, evictBy, deferredAt, evictDeferred}
+use Rattle.rules.specs.Adds.{addSide, addLink, addNode, addTo, addUnder, addAt, addTree, namedEpoch, inTime, addNamed, addInto, deferAt, addDeferred}
+use Rattle.rules.specs.Evicts.{evictSide, evictLink, evictNode, evictTo, evictUnder, evictAt, evictBy, deferredAt, evictDeferred}
 use Rattle.rules.specs.Answers as answers
 use Rattle.rules.specs.Answers.{getSlot, absentSide, absentNode, absentSlot, putInto}
 use Rattle.rules.specs.Epochs as epochs
@@ -207,7 +208,7 @@ module _ (st : State) (c : List ℕ) where
   -- ---- a step: it accepted an entry that was read, or everything is as it was
 
   pub data Stepping (w : List ℕ) (o : Step) : Type 0 where
-    took : (e : Entry) (n : ℕ) (σ : State) (d : List ℕ) → readEntry w ≡ reading.Good e n → entryStep e st c ≡ accepts σ d → o ≡ taking n (accepts σ d) → Stepping w o
+    took : wellState st ≡ true → (e : Entry) (n : ℕ) (σ : State) (d : List ℕ) → readEntry w ≡ reading.Good e n → entryStep e st c ≡ accepts σ d → o ≡ taking n (accepts σ d) → Stepping w o
     kept : (n m : ℕ) → eqb n accepted ≡ false → o ≡ taking m (refuses n st c) → Stepping w o
 
   -- 28: a cache of another length is never touched
@@ -219,19 +220,19 @@ module _ (st : State) (c : List ℕ) where
   unfolding step stepWell
   step-settles w = len (wellLength c) refl
     where
-      read : (r : Reading) → readEntry w ≡ r → Stepping w (stepRead st c r)
-      read reading.Short e = kept short 0 refl refl
-      read (reading.Malformed n) e = kept malformed n refl refl
-      read (reading.Good x n) e = go (entry-settles x)
+      read : wellState st ≡ true → (r : Reading) → readEntry w ≡ r → Stepping w (stepRead st c r)
+      read f reading.Short e = kept short 0 refl refl
+      read f (reading.Malformed n) e = kept malformed n refl refl
+      read f (reading.Good x n) e = go (entry-settles x)
         where
           go : Settles (entryStep x st c) → Stepping w (stepRead st c (reading.Good x n))
-          go (took σ d q) = took x n σ d e q (ap (taking n) q)
+          go (took σ d q) = took f x n σ d e q (ap (taking n) q)
           go (kept m z q) = kept m n z (ap (taking n) q)
 
-      formed : (b : Bool) → Stepping w (pick b (stepRead st c (readEntry w)) (taking 0 (refuses notWell st c)))
-      formed true = read (readEntry w) refl
-      formed false = kept notWell 0 refl refl
+      formed : (b : Bool) → wellFormed st c ≡ b → Stepping w (pick b (stepRead st c (readEntry w)) (taking 0 (refuses notWell st c)))
+      formed true e = read (both-true (wellState st) (wellCache c) e .0) (readEntry w) refl
+      formed false e = kept notWell 0 refl refl
 
       len : (b : Bool) → wellLength c ≡ b → Stepping w (pick b (pick (wellFormed st c) (stepRead st c (readEntry w)) (taking 0 (refuses notWell st c))) (taking 0 (refuses wrongCache st c)))
-      len true e = formed (wellFormed st c)
+      len true e = formed (wellFormed st c) refl
       len false e = kept wrongCache 0 refl refl

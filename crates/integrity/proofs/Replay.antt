@@ -2,14 +2,15 @@
 -- refused input is no step of it.
 use mathlib.Core.Path.{_≡_, refl, sym, _∙_, ap, subst}
 use mathlib.Core.Logic.{_⊎_, inl, inr}
-use mathlib.Core.Bool.{Bool, true, false}
+use mathlib.Core.Bool.{true, false}
 use mathlib.Core.Option.{Option, none, some}
 use mathlib.Core.List.{List, [], _∷_, _++_, List·Memᴰ}
-use Prim.Native.Nat.{ℕ, zero, suc, _-_, _≤_, _<_}
+use Prim.Native.Nat.{ℕ, _-_, _≤_}
 use native.Mathlib.Omega.{arith}
-use lib.Dec.{eqb, leb}
+use lib.Dec.{eqb}
 use borrow.Author.Tests.{eqb-true, le-leb}
 use Rattle.words.specs.Choice.{pick}
+use Rattle.words.specs.Numbers.{Bytes}
 use Rattle.words.proofs.Laws.{both-true}
 use Rattle.verdict.specs.Verdicts.{accepted}
 use Rattle.cmac.specs.declared.Tag.{Tag}
@@ -19,18 +20,18 @@ use Rattle.value.specs.Values.{wellValue}
 use Rattle.entry.specs.Entries.{readEntry, wellEntry}
 use Rattle.entry.specs.declared.Entry.{Entry}
 use Rattle.entry.specs.declared.Entry.the-variants.{AddTree, AddDeferred, EvictTree, EvictDeferred, EvictTreeDeferred, Get, Absent, Put, Advance, Close}
-use Rattle.entry.specs.declared.Reading.the-variants as reading
 use Rattle.writer.specs.Writings.{EntryFits}
 use Rattle.writer.proofs.Same.{entry-same}
 use Rattle.hash.specs.Hashes.{digestOf, tagOf}
 use Rattle.hash.specs.declared.SetKey.{SetKey}
 use Rattle.cache.specs.Caches.{count}
+use Rattle.state.specs.States.{wellState}
 use Rattle.state.specs.declared.State.{State}
-use Rattle.rules.specs.Outcomes.{accepts, refuses}
-use Rattle.rules.specs.Steps.{Step, entryStep, taking, step}
-use Rattle.integrity.specs.Statement.{Moment, stepAt, after, run, entryIn, taken, onEntry, putBy, lastPut, Agrees, valueIn, cacheValues, stood, addedBy, evictedBy, adds, evicts, AllBytes}
+use Rattle.rules.specs.Outcomes.{accepts}
+use Rattle.rules.specs.Steps.{Step, entryStep, step}
+use Rattle.integrity.specs.Statement.{Moment, after, run, entryIn, taken, onEntry, putBy, lastPut, Agrees, valueIn, cacheValues, stood, addedBy, evictedBy, adds, evicts, AllBytes}
 use Rattle.integrity.proofs.Ancestors.{Key}
-use Rattle.integrity.proofs.Records.{Value, Cell, Message}
+use Rattle.integrity.proofs.Records.{Value, Message}
 use Rattle.integrity.proofs.Moves.{Cached}
 use Rattle.integrity.proofs.Lane.{Lane, lane-settled, Run, snoc, settled-mono, last-put, AllSay, Stood}
 use Rattle.integrity.proofs.Tallies.{tags}
@@ -41,6 +42,7 @@ use Rattle.integrity.proofs.RefineAnswers.{refine-get, refine-absent, r
 use Rattle.integrity.proofs.RefineEpochs.{refine-advance, refine-close}
 use Rattle.integrity.proofs.Refused.{Stepping, step-settles}
 use Rattle.integrity.proofs.Refused as refused
+use Rattle.integrity.proofs.Messages.{AllWell, join-well, added-well, evicted-well}
 use Rattle.integrity.proofs.Stood.{mem-left, mem-right, mem-split, found-stood, Sound, values-sound, entry-sound}
 
 -- a data key is well formed
@@ -101,6 +103,8 @@ module _ (key : SetKey) where
     pub ads : end .ads ≡ D
     pub in-stood : (v : Value) → Stood digestOf isData Tag tags (tagOf key) whole v → Stood digestOf isData Tag tags (tagOf key) r v ⊎ List·Memᴰ v L
     pub sound : (v : Value) → List·Memᴰ v L → Sound v
+    pub evs-well : AllWell (t .evs) → AllWell E
+    pub ads-well : AllWell (t .ads) → AllWell D
 
   abbrev pub Replay : {t : Lane} → Runs t → Moment → List (List ℕ) → Type 0
   Replay {t} r m ws = Replayed r (run m ws) (λ e. AgreeAll e m (last r) ws) (evicts m ws (t .evs)) (adds m ws (t .ads)) (stood m ws)
@@ -111,7 +115,7 @@ module _ (key : SetKey) where
 
   module _ {t : Lane} (st : State) (c : List ℕ) (R : Stands key st c t) (r : Runs t) (w : List ℕ) (ws : List (List ℕ)) where
     -- the same of one input more, by the moment after it and the entry that was accepted
-    abbrev Part : Moment → Option Entry → Type 0
+    Part : Moment → Option Entry → Type 0
     Part m x =
         Replayed r (run m ws) (λ e. (st .epoch .0 ≤ e → onEntry x Unit (λ y. Agrees y (last r))) × AgreeAll e m (onEntry x (last r) (λ y. putBy y (last r))) ws)
         (evicts m ws (onEntry x [] (evictedBy (record { state = st; cache = c })) ++ t .evs)) (adds m ws (onEntry x [] addedBy ++ t .ads))
@@ -119,6 +123,7 @@ module _ (key : SetKey) where
 
     -- refused
     stays : Replay r (record { state = st; cache = c }) ws → Part (record { state = st; cache = c }) none
+    unfolding Part
     stays p = record {
       end = p .end;
       whole = p .whole;
@@ -129,12 +134,15 @@ module _ (key : SetKey) where
       ads = p .ads;
       in-stood = λ v s. elim (p .in-stood v s) [ inl u ↦ inl u | inr u ↦ inr (mem-right (cacheValues (count c) c) _ u) ];
       sound = λ v h. elim (mem-split (cacheValues (count c) c) _ h) [ inl g ↦ values-sound (count c) c (R .bytes) v g | inr g ↦ p .sound v g ];
+      evs-well = p .evs-well;
+      ads-well = p .ads-well;
     }
 
     -- accepted
-    goes : (x : Entry) → wellEntry x ≡ true → EntryFits x → (σ : State) (d : List ℕ) → (g : Refined key x st c σ d t) → Replay (snoc r (g .acc)) (record { state = σ; cache = d }) ws
+    goes : wellState st ≡ true → (x : Entry) → wellEntry x ≡ true → EntryFits x → (σ : State) (d : List ℕ) → (g : Refined key x st c σ d t) → Replay (snoc r (g .acc)) (record { state = σ; cache = d }) ws
         → Part (record { state = σ; cache = d }) (some x)
-    goes x wx fx σ d g p = record {
+    unfolding Part
+    goes ok x wx fx σ d g p = record {
       end = p .end;
       whole = p .whole;
       stands = p .stands;
@@ -157,7 +165,31 @@ module _ (key : SetKey) where
         | inl q ↦ values-sound (count c) c (R .bytes) v q
         | inr q ↦ elim (mem-split (valueIn x) _ q) [ inl i ↦ entry-sound x wx fx v i | inr i ↦ p .sound v i ]
       ];
+      evs-well = λ a. rw (← g .evicting) (p .evs-well (rw (g .evicting) (join-well (evictedBy (record { state = st; cache = c }) x) (t .evs) (evicted-well st c (R .bytes) ok x) a)));
+      ads-well = λ a. rw (← g .adding) (p .ads-well (rw (g .adding) (join-well (addedBy x) (t .ads) (added-well x wx fx) a)));
     }
+
+    abbrev now : Moment
+    now = record { state = st; cache = c }
+
+    carry : (m : Moment) (x : Option Entry) → after now w ≡ m → taken now w ≡ x → Part m x → Part (after now w) (taken now w)
+    carry m x p q h = subst (λ y. Part y (taken now w)) (sym p) (subst (Part m) (sym q) h)
+
+    opened : Part (after now w) (taken now w) → Replay r now (w ∷ ws)
+    unfolding Part AgreeAll
+    opened h = h
+
+    -- one input more, accepted or refused
+    one-more : Bytes w → Stepping st c w (step w st c) → Replay r now ws
+        → ((x : Entry) (σ : State) (d : List ℕ) (g : Refined key x st c σ d t) → Replay (snoc r (g .acc)) (record { state = σ; cache = d }) ws) → Replay r now (w ∷ ws)
+    one-more b (refused.kept n m z q) p f =
+        opened (carry now none (ap (λ (o : Step). record { state = o .result .state; cache = o .bytes }) q)
+        (ap (λ (o : Step). pick (eqb (o .result .verdict) accepted) (entryIn (readEntry w)) none) q ∙ ap (λ y. pick y (entryIn (readEntry w)) none) z) (stays p))
+    one-more b (refused.took ok x n σ d g h q) p f =
+        let y = entry-same w b x n g in
+        let i = refine key st c t R σ d x (y .well) (y .fits) h in
+        opened (carry (record { state = σ; cache = d }) (some x) (ap (λ (o : Step). record { state = o .result .state; cache = o .bytes }) q)
+        (ap (λ (o : Step). pick (eqb (o .result .verdict) accepted) (entryIn (readEntry w)) none) q ∙ ap entryIn g) (goes ok x (y .well) (y .fits) σ d i (f x σ d i)))
 
   pub replay : {t : Lane} (ws : List (List ℕ)) → AllBytes ws → (st : State) (c : List ℕ) → Stands key st c t → (r : Runs t) → Replay r (record { state = st; cache = c }) ws
   unfolding AgreeAll
@@ -171,14 +203,8 @@ module _ (key : SetKey) where
     ads = refl;
     in-stood = λ v s. inl s;
     sound = λ v h. values-sound (count c) c (R .bytes) v h;
+    evs-well = λ a. a;
+    ads-well = λ a. a;
   }
-  replay {t} (w ∷ ws) b st c R r = by (step-settles st c w) (replay ws (b .1) st c R r) (λ x σ d g. replay ws (b .1) σ d (g .stands) (snoc r (g .acc)))
-    where
-      by : Stepping st c w (step w st c) → Replay r (record { state = st; cache = c }) ws
-          → ((x : Entry) (σ : State) (d : List ℕ) (g : Refined key x st c σ d t) → Replay (snoc r (g .acc)) (record { state = σ; cache = d }) ws)
-          → Part st c R r w ws (after (record { state = st; cache = c }) w) (taken (record { state = st; cache = c }) w)
-      by (refused.kept n m z q) p f = rw (q, z) (stays st c R r w ws p)
-      by (refused.took x n σ d g h q) p f =
-          let y = entry-same w (b .0) x n g in
-          let i = refine key st c t R σ d x (y .well) (y .fits) h in
-          rw (q, g) (goes st c R r w ws x (y .well) (y .fits) σ d i (f x σ d i))
+  replay (w ∷ ws) b st c R r =
+      one-more st c R r w ws (b .0) (step-settles st c w) (replay ws (b .1) st c R r) (λ x σ d g. replay ws (b .1) σ d (g .stands) (snoc r (g .acc)))

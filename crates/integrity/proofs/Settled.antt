@@ -1,14 +1,13 @@
 -- The last epoch settled: a state has it as its lane has, it never falls, and an epoch that was closed is not above it.
 use mathlib.Core.Path.{_≡_, refl, sym, _∙_, ap, subst}
 use mathlib.Core.Bool.{Bool, true, false}
-use mathlib.Core.Option.{none, some, Option·none-ne-some, Option·some-injective}
+use mathlib.Core.Option.{some, Option·none-ne-some, Option·some-injective}
 use mathlib.Core.List.{List, [], _∷_, _++_}
 use Prim.Native.Nat.{ℕ, zero, suc, _-_, _≤_}
 use native.Mathlib.Omega.{arith}
 use lib.Dec.{eqb}
 use Rattle.words.specs.Choice.{pick}
 use Rattle.words.specs.Numbers.{Bytes}
-use Rattle.words.proofs.Laws.{picked}
 use Rattle.verdict.specs.Verdicts.{accepted, wrongMoment, countsDiffer, sumsDiffer}
 use Rattle.cmac.specs.Tags.{tagEq}
 use Rattle.entry.specs.declared.Entry.{Entry}
@@ -16,7 +15,7 @@ use Rattle.entry.specs.declared.Entry.the-variants.{Close}
 use Rattle.hash.specs.Hashes.{setKey}
 use Rattle.hash.specs.declared.SetKey.{SetKey}
 use Rattle.cache.specs.Caches.{openedCache}
-use Rattle.state.specs.States.{closedState, freshState, settledOf, settled}
+use Rattle.state.specs.States.{closedState, freshState, settled}
 use Rattle.state.specs.declared.Old as old
 use Rattle.state.specs.declared.Old.the-variants.{Closed, Open}
 use Rattle.state.specs.declared.State.{State}
@@ -27,13 +26,13 @@ use Rattle.rules.specs.Steps.{entryStep, step}
 use Rattle.writer.proofs.Same.{entry-same}
 use Rattle.integrity.specs.Statement as statement
 use Rattle.integrity.specs.Statement.{Moment, after, run, taken, AllClosed, AllBytes}
-use Rattle.integrity.proofs.Lane.{Lane, lane-settled, settled-by, start, snoc}
-use Rattle.integrity.proofs.Tallies.{OldIs, no-old, is-old}
-use Rattle.integrity.proofs.Refines.{never, Stands, Refined}
+use Rattle.integrity.proofs.Lane.{Lane, lane-settled, start, snoc}
+use Rattle.integrity.proofs.Tallies.{no-old, is-old}
+use Rattle.integrity.proofs.Refines.{never, Stands}
 use Rattle.integrity.proofs.Opened.{opened-stands}
 use Rattle.integrity.proofs.Refused.{Stepping, step-settles}
 use Rattle.integrity.proofs.Refused as refused
-use Rattle.integrity.proofs.Replay.{refine, Runs, Replayed, Replay, replay}
+use Rattle.integrity.proofs.Replay.{refine, Replay, replay}
 
 pub settled-is : (key : SetKey) {st : State} {c : List ℕ} {t : Lane} → Stands key st c t → settled st ≡ lane-settled t
 unfolding settled
@@ -87,7 +86,7 @@ module _ (key : List ℕ) (n : ℕ) where
         where
           by : Stepping (run begin before .state) (run begin before .cache) w (step w (run begin before .state) (run begin before .cache)) → i ≤ settled (run (after (run begin before) w) rest .state)
           by (refused.kept m l z u) = absurd (Option·none-ne-some Close (sym (rw (u, z)) ∙ q))
-          by (refused.took x m σ d g h u) =
+          by (refused.took f x m σ d g h u) =
               let y = entry-same w bw x m g in
               let j = refine (setKey key) (run begin before .state) (run begin before .cache) (p .end) (p .stands) σ d x (y .well) (y .fits) h in
               let l = replay (setKey key) rest br σ d (j .stands) (snoc (p .whole) (j .acc)) in

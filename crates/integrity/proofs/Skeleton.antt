@@ -1,12 +1,12 @@
--- The skeleton of the sparse tree: which key each side of each node names.
-use mathlib.Core.Path.{_≡_, refl, sym, _∙_, ap, subst}
-use mathlib.Core.Logic.{_⊎_, inl, inr, _≢_}
-use mathlib.Core.Bool.{Bool, true, false, true≢false, Bool-discrete}
+-- Part 3 of demand 3, the tree's skeleton: which key each side of each linked node names. Cover (`reach`): from a linked key every linked key
+-- below it is reached; a new key goes between.
+use mathlib.Core.Path.{_≡_, refl, sym, _∙_, subst}
+use mathlib.Core.Logic.{_≢_}
+use mathlib.Core.Bool.{Bool, true}
 use mathlib.Core.Option.{Option, none, some, Option·none-ne-some, Option·some-injective}
-use mathlib.Core.List.{List, [], _∷_}
 use Rattle.integrity.proofs.Ancestors.{Key, Pre, Below, pre-refl, pre-trans, below-pre, side-one, below-trans, below-not-back, Order, same, over, under, order}
 use Rattle.key.specs.Keys.{rootKey}
-use Rattle.integrity.proofs.Updates.{Is, is, isnt, view, pick, upd, upd-same, upd-other, Who, anc, rec, other, who, pick3, upd2, On, on, off, onSide, pickS}
+use Rattle.integrity.proofs.Updates.{Is, is, isnt, view, pick, upd, upd-same, upd-other, Who, anc, rec, other, who, pick3, On, on, off, onSide, pickS}
 
 pub record Tree (tk : Key → Bool → Option Key) (live : Key → Bool) : Type 0 where
   pub root : live rootKey ≡ true

@@ -1,17 +1,17 @@
 -- Refinement, the values that stood: what the lane's cache holds stands in a slot, and what stood is well formed, so that different values have
 -- different bytes, and equal digests are equal SHA-256.
-use mathlib.Core.Path.{_≡_, refl, sym, _∙_, ap, subst}
+use mathlib.Core.Path.{_≡_, refl, sym, _∙_, ap}
 use mathlib.Core.Logic.{_⊎_, inl, inr}
 use mathlib.Core.Bool.{true}
-use mathlib.Core.Option.{none, some, Option·none-ne-some, Option·some-injective}
+use mathlib.Core.Option.{some, Option·none-ne-some, Option·some-injective}
 use mathlib.Core.List.{List, [], _∷_, _++_, List·Memᴰ, List·Memᴰ·head, List·Memᴰ·tail, List·Memᴰ·cases-cons, List·Memᴰ·not-nil}
-use Prim.Native.Nat.{ℕ, zero, suc, _+_, _≤_, _<_}
+use Prim.Native.Nat.{ℕ, zero, suc, _+_}
 use native.Mathlib.Omega.{arith}
 use lib.ListN.{length, take, drop, length-append}
 use lib.Seq.{getD-drop, take-length}
-use Rattle.words.specs.Numbers.{bytesOf, Bytes}
+use Rattle.words.specs.Numbers.{Bytes}
 use Rattle.words.proofs.Laws.{both-true, bytes-length, part-bytes}
-use Rattle.sha256.specs.Sha256.{sha256, hashOf, hashBytes}
+use Rattle.sha256.specs.Sha256.{sha256}
 use Rattle.key.specs.Keys.{wellKey, isData}
 use Rattle.value.specs.Values.{valueBytes, wellValue, ValueFits, digestBytes}
 use Rattle.value.proofs.Same.{digest-same}
@@ -20,6 +20,7 @@ use Rattle.entry.specs.declared.Entry.{Entry}
 use Rattle.entry.specs.declared.Entry.the-variants.{AddTree, AddDeferred, EvictTree, EvictDeferred, EvictTreeDeferred, Get, Absent, Put, Advance, Close}
 use Rattle.writer.specs.Writings.{EntryFits}
 use Rattle.hash.specs.Hashes.{digestOf}
+use Rattle.hash.proofs.Laws.{sha-bytes}
 use Rattle.slot.specs.Slots as slot
 use Rattle.slot.specs.declared.Slot.{Slot}
 use Rattle.slot.specs.declared.Slot.the-variants as sl
@@ -31,7 +32,6 @@ use Rattle.integrity.proofs.Updates as updates
 use Rattle.integrity.proofs.Records.{Value, Cell}
 use Rattle.integrity.proofs.Slots.{look}
 use Rattle.integrity.proofs.Caches.{recOf, slotsOf}
-use Rattle.integrity.proofs.Written.{sha-bytes}
 
 -- ---- lists
 

@@ -1,10 +1,10 @@
 -- Refinement, part of the state: tags under xor are a group as part 1 wants it, and the counts and sums that the state keeps are those of the
 -- messages.
-use mathlib.Core.Path.{_≡_, refl, sym, _∙_, ap, subst}
+use mathlib.Core.Path.{_≡_, refl, _∙_, ap, subst}
 use mathlib.Core.Logic.{_≢_}
 use mathlib.Core.Bool.{Bool, true, false}
 use mathlib.Core.List.{List, [], _∷_}
-use Prim.Native.Nat.{ℕ, zero, suc, _+_, _≤_, _<_}
+use Prim.Native.Nat.{ℕ, suc, _<_}
 use native.Mathlib.Numerals.{add-one}
 use native.Mathlib.Omega.{arith}
 use lib.ListN.{length}
@@ -14,7 +14,7 @@ use Rattle.cmac.proofs.Tags.{tag-assoc, tag-comm, tag-zero, tag-self}
 use Rattle.message.specs.declared.Message.{Message}
 use Rattle.hash.specs.Hashes.{tagOf}
 use Rattle.hash.specs.declared.SetKey.{SetKey}
-use Rattle.state.specs.States.{noTally, tallyAdd, tallyEvict, addedCurrent, addedOld, evictedState, advancedState, closedState}
+use Rattle.state.specs.States.{tallyAdd, tallyEvict, addedCurrent, addedOld, evictedState, advancedState, closedState}
 use Rattle.state.specs.declared.Tally.{Tally}
 use Rattle.state.specs.declared.Old as old
 use Rattle.state.specs.declared.Old.the-variants.{Closed, Open}

@@ -1,11 +1,10 @@
 -- Document 01, "Traps in this trade": histories, computed from bytes to bytes, that show why demand 3 says neither more nor less. Digests and tags
 -- stay symbols.
 use Prim.Native.Nat.{ℕ}
-use mathlib.Core.Path.{_≡_, refl, sym, _∙_, ap, ap₂}
-use mathlib.Core.Bool.{Bool, true, false}
+use mathlib.Core.Path.{_≡_, refl, _∙_, ap}
+use mathlib.Core.Bool.{true}
 use mathlib.Core.Option.{some}
-use mathlib.Core.List.{List, [], _∷_, _++_}
-use lib.Dec.{eqb}
+use mathlib.Core.List.{List, [], _∷_}
 use Rattle.words.specs.Numbers.{numberAt, bytesOf, zeros}
 use Rattle.verdict.specs.Verdicts.{accepted}
 use Rattle.words.specs.Splices.{splice}
@@ -26,7 +25,6 @@ use Rattle.slot.specs.Slots.{slotBytes, allZero, slotAt}
 use Rattle.cache.specs.Caches.{wellLength, heldIn, held, wellRecord, wellAt, wellFrom, wellCache, openedCache}
 use Rattle.state.specs.States.{wellState, addedCurrent, addedOld, evictedState, evictMessage, evicted, advancedState, closedState, freshState, openDef}
 use Rattle.state.specs.declared.Old.the-variants.{Open}
-use Rattle.state.specs.declared.State.{State}
 use Rattle.rules.specs.Outcomes.{gives}
 use Rattle.rules.specs.Adds.{linked, addLink, addNode, addUnder, addTree, namedEpoch, addInto, addDeferred, addMessage}
 use Rattle.rules.specs.Evicts.{unlinked, evictLink, evictNode, evictUnder, evictBy, evictDeferred}

@@ -1,13 +1,13 @@
--- The cache, the true values, the two lists of messages; the invariant, and that each entry keeps it.
+-- Part 3 of demand 3, the invariant: the cache, the true values, the messages evicted and added; and that each entry keeps it.
 use mathlib.Core.Path.{_≡_, refl, sym, _∙_, ap, subst, fun-ext}
 use mathlib.Core.Logic.{_⊎_, inl, inr, _≢_}
-use mathlib.Core.Bool.{Bool, true, false, true≢false, false≢true, cond}
-use mathlib.Core.Option.{Option, none, some, Option·none-ne-some, Option·some-ne-none, Option·some-injective}
-use mathlib.Core.List.{List, [], _∷_, List·Memᴰ, List·Memᴰ·head, List·Memᴰ·tail, List·Memᴰ·cases-cons}
+use mathlib.Core.Bool.{Bool, true, false, true≢false}
+use mathlib.Core.Option.{Option, none, some, Option·none-ne-some}
+use mathlib.Core.List.{List, _∷_, List·Memᴰ, List·Memᴰ·head, List·Memᴰ·tail, List·Memᴰ·cases-cons}
 use Rattle.integrity.proofs.Ancestors.{Key, Pre, pre-refl, Below, below-not-back}
 use Rattle.integrity.proofs.Updates.{Is, is, isnt, view, pick, upd, upd-same, upd-other, Who, anc, rec, other, who, pick3, upd2, On, on, off, onSide, pickS}
 use Rattle.integrity.proofs.Skeleton.{Tree, one-linker, inserted, Lower, insert}
-use Rattle.integrity.proofs.Records.{Digest, Side, empty, link, Value, vnone, print, node, bare, Origin, fromTree, fromDeferred, Cell, Message, sideOf, setSide, IsNode, set-sides, keyOf, digestIn, markOf, key-of-link}
+use Rattle.integrity.proofs.Records.{Digest, empty, link, Value, vnone, print, node, fromTree, fromDeferred, Cell, Message, sideOf, setSide, IsNode, set-sides, keyOf, key-of-link}
 use Rattle.integrity.proofs.OneKey.{first, Good, good-mono, good-write, good-evict-tree, good-evict-deferred, good-add-deferred, good-add-tree, good-new}
 
 abbrev pub skel : (Key → Value) → Key → Bool → Option Key

@@ -1,7 +1,7 @@
--- Updates of functions, read through views that a proof matches on.
-use mathlib.Core.Path.{_≡_, refl, sym, _∙_, ap, subst}
-use mathlib.Core.Logic.{_⊎_, inl, inr, _≢_}
-use mathlib.Core.Bool.{Bool, true, false, Bool-discrete}
+-- Functions of keys that are changed at one key or at two, read through views that a proof matches on.
+use mathlib.Core.Path.{_≡_, refl, sym, _∙_, subst}
+use mathlib.Core.Logic.{_≢_}
+use mathlib.Core.Bool.{Bool, Bool-discrete}
 use Rattle.integrity.specs.Same.{key-dec}
 use Rattle.key.specs.declared.Key.{Key}
 

@@ -1,6 +1,6 @@
 -- Lists of things that can be told apart: how often one occurs, and which occur an odd number of times.
 use mathlib.Core.Logic.{ite}
-use mathlib.Core.Bool.{Bool, true, false, not}
+use mathlib.Core.Bool.{Bool, false, not}
 use mathlib.Core.List.{List, [], _∷_}
 use Prim.Native.Nat.{ℕ, zero, suc}
 

@@ -2,3 +2,4 @@
 pub mod Same
 pub mod Counting
 pub mod Statement
+pub mod Logs

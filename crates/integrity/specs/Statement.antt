@@ -25,6 +25,7 @@ use Rattle.key.specs.declared.Key.{Key}
 use Rattle.value.specs.Values.{valueBytes}
 use Rattle.value.specs.declared.Value.{Value}
 use Rattle.value.specs.declared.Value.the-variants.{None}
+use Rattle.message.specs.Messages.{messageBytes}
 use Rattle.message.specs.declared.Message.{Message}
 use Rattle.entry.specs.Entries.{readEntry}
 use Rattle.entry.specs.declared.Entry.{Entry}
@@ -211,12 +212,13 @@ xorTags set (m ∷ l) = tagXor (xorTags set l) (tagOf set m)
 abbrev pub oddMessages : ℕ → Moment → List (List ℕ) → List Message
 oddMessages i m ws = odds Message message-dec (ofEpoch i (adds m ws []) ++ ofEpoch i (evicts m ws []))
 
--- "for one of the epochs 1 to e .. are not none and their tags xor to zero"
+-- "for one of the epochs 1 to e .. are not none and their tags xor to zero"; they differ in their bytes, so that none cancels with itself
 pub record TagsCancel (set : SetKey) (e : ℕ) (m : Moment) (ws : List (List ℕ)) : Type 0 where
   pub epoch : ℕ
   pub first : 1 ≤ epoch
   pub last : epoch ≤ e
   pub some-odd : oddMessages epoch m ws ≢ []
+  pub apart : (a b : Message) → List·Memᴰ a (oddMessages epoch m ws) → List·Memᴰ b (oddMessages epoch m ws) → messageBytes a ≡ messageBytes b → a ≡ b
   pub cancel : xorTags set (oddMessages epoch m ws) ≡ noTag
 
 -- ---- "If epochs 1 to e have all been closed"

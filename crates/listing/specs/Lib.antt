@@ -1,2 +1,3 @@
--- The listing of a log.
+-- The listing of a log, and the room that it takes.
 pub mod Listings
+pub mod Rooms

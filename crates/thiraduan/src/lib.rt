@@ -8,8 +8,9 @@ ghost use Rattle.state.specs.States.{openDef};
 ghost use Rattle.entry.specs.Entries.{readEntry, readingVerdict, readingUsed};
 ghost use Rattle.sha256.specs.Sha256.{digestOf};
 ghost use Rattle.term.specs.Terms.{termKey, matches};
-ghost use Rattle.thiraduan.specs.Answers.{flag, rewritten};
+ghost use Rattle.thiraduan.specs.Answers.{flag, rewritten, flatStep, flatRun};
 use entry::Reading;
+use flat::StateRead;
 
 // 1 for yes, 0 for no.
 fn flag(yes: bool) -> u8
@@ -155,4 +156,62 @@ pub extern "C" fn thiraduan_open(key: &[u8; 16], cache: &mut [u8], state: &mut [
     let st = o.state;
     flat::write_state(state, st);
     o.verdict
+}
+
+// One step on a state's 129 bytes: the next state's bytes to state, the bytes used to used. Bytes that are no state: 1, and nothing else is written
+// but 0 to used.
+#[no_mangle]
+pub extern "C" fn thiraduan_step(
+    log: &[u8],
+    state: &mut [u8; 129],
+    cache: &mut [u8],
+    used: &mut u64,
+) -> u32
+    ensures { λ r. ⌜ r ≡ flatStep (now (log .entry)) (now (state .entry)) (now (cache .entry)) .verdict ⌝ }
+    ensures { λ _. ⌜ now (state .exit) ≡ flatStep (now (log .entry)) (now (state .entry)) (now (cache .entry)) .state ⌝ }
+    ensures { λ _. ⌜ now (cache .exit) ≡ flatStep (now (log .entry)) (now (state .entry)) (now (cache .entry)) .cache ⌝ }
+    ensures { λ _. ⌜ now (used .exit) ≡ flatStep (now (log .entry)) (now (state .entry)) (now (cache .entry)) .used ⌝ }
+{
+    match flat::read_state(state) {
+        StateRead::Bad => {
+            *used = 0;
+            verdict::NOT_WELL
+        }
+        StateRead::Good(st) => {
+            let r = step::step(log, st, cache);
+            let s = r.state;
+            flat::write_state(state, s);
+            *used = r.used as u64;
+            r.verdict
+        }
+    }
+}
+
+// A run over a log on a state's 129 bytes: the end state's bytes to state; the last epoch settled, entries met, entries accepted and bytes used to told.
+// Bytes that are no state: 1, and nothing else is written but zeros to told.
+#[no_mangle]
+pub extern "C" fn thiraduan_run(
+    log: &[u8],
+    state: &mut [u8; 129],
+    cache: &mut [u8],
+    told: &mut [u64; 4],
+) -> u32
+    ensures { λ r. ⌜ r ≡ flatRun (now (log .entry)) (now (state .entry)) (now (cache .entry)) .verdict ⌝ }
+    ensures { λ _. ⌜ now (state .exit) ≡ flatRun (now (log .entry)) (now (state .entry)) (now (cache .entry)) .state ⌝ }
+    ensures { λ _. ⌜ now (cache .exit) ≡ flatRun (now (log .entry)) (now (state .entry)) (now (cache .entry)) .cache ⌝ }
+    ensures { λ _. ⌜ now (told .exit) ≡ flatRun (now (log .entry)) (now (state .entry)) (now (cache .entry)) .told ⌝ }
+{
+    match flat::read_state(state) {
+        StateRead::Bad => {
+            *told = [0, 0, 0, 0];
+            verdict::NOT_WELL
+        }
+        StateRead::Good(st) => {
+            let r = run::run(log, st, cache);
+            let s = r.state;
+            flat::write_state(state, s);
+            *told = [r.settled, r.met, r.accepted, r.used as u64];
+            verdict::ACCEPTED
+        }
+    }
 }

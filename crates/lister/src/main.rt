@@ -1,0 +1,4 @@
+// The program that lists a log.
+fn main() {
+    program::run();
+}

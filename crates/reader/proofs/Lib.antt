@@ -1,0 +1,3 @@
+-- Places worked through, and their laws.
+pub mod Examples
+pub mod Laws

@@ -1,0 +1,2 @@
+-- Places in a log.
+pub mod Places

@@ -1,0 +1,3 @@
+-- Empty versions of a run that fall, and the laws of its turns.
+pub mod Empty
+pub mod Laws

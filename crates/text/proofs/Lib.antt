@@ -1,0 +1,2 @@
+-- Laws of the listing's text.
+pub mod Laws

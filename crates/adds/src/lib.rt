@@ -10,6 +10,7 @@ ghost use Rattle.hash.specs.Hashes.{setBytes, tagOf};
 ghost use Rattle.slot.specs.Slots.{slotLength};
 ghost use Rattle.state.specs.States.{addedCurrent, addedOld};
 ghost use Rattle.rules.specs.Outcomes.{outcome};
+ghost use Rattle.adds.specs.Parts.{addSame, addFirst};
 ghost use Rattle.rules.specs.Adds.{linked, addLink, addNode, addUnder, addTree, namedEpoch, inTime, addCounted, addInto, addDeferred};
 use aes::Expanded;
 use key::Key;
@@ -34,6 +35,7 @@ use tree::fits;
 use tree::is_first;
 use tree::side_of;
 use tree::with_side;
+use value::Digest;
 use value::Node;
 use value::Side;
 use value::Value;
@@ -66,6 +68,45 @@ fn set_link(
     set_slot(cache, s, ORIGIN_TREE, k, v);
 }
 
+// 15: the value given must be first; y is the value as stored. Inner.
+fn add_first(
+    s: usize,
+    p: usize,
+    po: u8,
+    pk: Key,
+    n: Node,
+    right: bool,
+    k: Key,
+    first: bool,
+    y: Value,
+    st: State,
+    cache: &mut [u8],
+) -> Done
+    requires { ⌜ ((s + 1) * slotLength ≤ length (now cache)) × ((p + 1) * slotLength ≤ length (now cache)) ⌝ }
+    ensures { λ r. ⌜ outcome r (now (cache .exit)) ≡ addFirst s p po pk n right k first y st (now (cache .entry)) ⌝ }
+{
+    if first {
+        set_link(s, p, po, pk, n, right, k, y, cache);
+        return gives(verdict::ACCEPTED, st);
+    }
+    gives(verdict::NOT_FIRST, st)
+}
+
+// 13, 14: p's link names our key. Inner.
+fn add_same(s: usize, k: Key, v: Value, ld: Digest, lm: bool, st: State, cache: &mut [u8]) -> Done
+    requires { ⌜ (s + 1) * slotLength ≤ length (now cache) ⌝ }
+    ensures { λ r. ⌜ outcome r (now (cache .exit)) ≡ addSame s k v ld lm st (now (cache .entry)) ⌝ }
+{
+    if lm {
+        return gives(verdict::MARKED_DEFERRED, st);
+    }
+    if ld.same(hash::digest_of(v)) {
+        set_slot(cache, s, ORIGIN_TREE, k, v);
+        return gives(verdict::ACCEPTED, st);
+    }
+    gives(verdict::DIGEST_DIFFERS, st)
+}
+
 // 12 to 15: by p's link toward the key. Inner.
 fn add_link(
     s: usize,
@@ -82,41 +123,25 @@ fn add_link(
     requires { ⌜ ((s + 1) * slotLength ≤ length (now cache)) × ((p + 1) * slotLength ≤ length (now cache)) ⌝ }
     ensures { λ r. ⌜ outcome r (now (cache .exit)) ≡ addLink s p po pk n right k v st (now (cache .entry)) ⌝ }
 {
+    let first = is_first(v);
     match side_of(n, right) {
-        Side::Empty => {
-            if is_first(v) {
-                set_link(s, p, po, pk, n, right, k, v, cache);
-                return gives(verdict::ACCEPTED, st);
-            }
-            gives(verdict::NOT_FIRST, st)
-        }
+        Side::Empty => add_first(s, p, po, pk, n, right, k, first, v, st, cache),
         Side::Link {
             key: lk,
             digest: ld,
             mark: lm,
         } => {
             if lk.same(k) {
-                if lm {
-                    return gives(verdict::MARKED_DEFERRED, st);
-                }
-                if ld.same(hash::digest_of(v)) {
-                    set_slot(cache, s, ORIGIN_TREE, k, v);
-                    return gives(verdict::ACCEPTED, st);
-                }
-                return gives(verdict::DIGEST_DIFFERS, st);
+                return add_same(s, k, v, ld, lm, st, cache);
             }
             if k.above(lk) {
-                if is_first(v) {
-                    let old = Side::Link {
-                        key: lk,
-                        digest: ld,
-                        mark: lm,
-                    };
-                    let node = with_side(bare_node(), k.toward(lk), old);
-                    set_link(s, p, po, pk, n, right, k, Value::Node(node), cache);
-                    return gives(verdict::ACCEPTED, st);
-                }
-                return gives(verdict::NOT_FIRST, st);
+                let old = Side::Link {
+                    key: lk,
+                    digest: ld,
+                    mark: lm,
+                };
+                let y = Value::Node(with_side(bare_node(), k.toward(lk), old));
+                return add_first(s, p, po, pk, n, right, k, first, y, st, cache);
             }
             gives(verdict::OTHER_BRANCH, st)
         }

@@ -118,7 +118,7 @@ impl Host {
                 };
                 match inputs.below(3) {
                     0 => Entry::Put { s, key, value: if inputs.below(9) == 0 { value } else { fingerprint(inputs) } },
-                    1 => Entry::Get { s, key, value },
+                    1 => Entry::Get { s, key, value: if inputs.below(4) == 0 { fingerprint(inputs) } else { value } },
                     _ => {
                         let key = data(inputs);
                         Entry::Absent { p: Self::parent(cache, &key), key }

@@ -29,10 +29,11 @@ fn program(room: &Path, log: &[u8]) -> String {
 fn hostile(inputs: &mut Inputs, set: &[u8; 16]) -> Vec<u8> {
     let (mut cache, mut host, mut log) = (vec![0; 4 * SLOT], Host::default(), Vec::new());
     let (_, mut state) = verifier::open(set, &mut cache);
-    for _ in 0..inputs.below(80) {
+    for _ in 0..inputs.below(240) {
         let mut bytes = host.entry(inputs, &state, &cache).bytes();
         if inputs.below(25) == 0 {
-            let place = 3.min(bytes.len() - 1) + inputs.below(bytes.len().saturating_sub(3).max(1));
+            // in the body where there is one, so that the log stays in step
+            let place = 3 + inputs.below(bytes.len().saturating_sub(3).max(1));
             let place = place.min(bytes.len() - 1);
             bytes[place] ^= 1 << inputs.below(8);
         }

@@ -1,11 +1,16 @@
 // A run over a log.
-// Promises upward: the step-by-step definition, for any log, any state and any lent cache.
+// Promises upward: the step-by-step definition, for any log, any state and any lent cache; it is made on the inner step, with one
+// expanded key for the whole run.
 ghost use mathlib.Core.Path.{_≡_};
+ghost use mathlib.Core.Bool.{true};
 ghost use Prim.Native.Nat.{ℕ, _≤_};
 ghost use lib.Dec.{eqb};
 ghost use Rattle.words.specs.Choice.{pick};
 ghost use Rattle.verdict.specs.Verdicts.{accepted};
-ghost use Rattle.run.specs.Runs.{running, halts, sound, ended, run};
+ghost use Rattle.aes.specs.Aes.{expansion};
+ghost use Rattle.hash.specs.Hashes.{setBytes};
+ghost use Rattle.run.specs.Runs.{running, halts, sound, run};
+use aes::Expanded;
 use state::State;
 use words::and;
 
@@ -51,30 +56,9 @@ fn counted(v: u32) -> u64
     0
 }
 
-// The end of a run, with the last epoch settled.
-fn end(at: usize, st: State, cache: &[u8], met: u64, accepted: u64) -> Ran
-    ensures { λ r. ⌜ running r (now (cache .entry)) ≡ ended at st (now (cache .entry)) met accepted ⌝ }
-{
-    if sound(st, cache) {
-        return Ran {
-            state: st,
-            settled: st.settled(),
-            met,
-            accepted,
-            used: at,
-        };
-    }
-    Ran {
-        state: st,
-        settled: 0,
-        met,
-        accepted,
-        used: at,
-    }
-}
-
-// A run over a log, one step after another.
-pub fn run(log: &[u8], st: State, cache: &mut [u8]) -> Ran
+// A run on a state and a cache to which neither 28 nor 1 applies; x is the set key expanded. Inner.
+fn run_well(x: Expanded, log: &[u8], st: State, cache: &mut [u8]) -> Ran
+    requires { ⌜ (sound st (now cache) ≡ true) × (x .bytes ≡ expansion (setBytes (st .set))) ⌝ }
     ensures { λ r. ⌜ running r (now (cache .exit)) ≡ run (now (log .entry)) st (now (cache .entry)) ⌝ }
 {
     let mut s = st;
@@ -82,15 +66,54 @@ pub fn run(log: &[u8], st: State, cache: &mut [u8]) -> Ran
     let mut met: u64 = 0;
     let mut accepted: u64 = 0;
     while at < log.len() {
-        let r = step::step(reader::rest_at(log, at), s, cache);
+        let r = step::step_well(x, reader::rest_at(log, at), s, cache);
         let used = r.used;
         s = r.state;
         met += 1;
         if halts(r.verdict) {
-            return end(at, s, cache, met, accepted);
+            return Ran {
+                state: s,
+                settled: s.settled(),
+                met,
+                accepted,
+                used: at,
+            };
         }
         accepted += counted(r.verdict);
         at += used;
     }
-    end(at, s, cache, met, accepted)
+    Ran {
+        state: s,
+        settled: s.settled(),
+        met,
+        accepted,
+        used: at,
+    }
+}
+
+// A run to which 28 or 1 applies, after so many entries met.
+fn refused(st: State, met: u64) -> Ran
+    ensures { λ r. ⌜ r ≡ record { state = st; settled = 0; met = met; accepted = 0; used = 0 } ⌝ }
+{
+    Ran {
+        state: st,
+        settled: 0,
+        met,
+        accepted: 0,
+        used: 0,
+    }
+}
+
+// A run over a log, one step after another.
+pub fn run(log: &[u8], st: State, cache: &mut [u8]) -> Ran
+    ensures { λ r. ⌜ running r (now (cache .exit)) ≡ run (now (log .entry)) st (now (cache .entry)) ⌝ }
+{
+    if sound(st, cache) {
+        let set = st.set;
+        return run_well(hash::expanded(set), log, st, cache);
+    }
+    if log.len() == 0 {
+        return refused(st, 0);
+    }
+    refused(st, 1)
 }

@@ -1,6 +1,3 @@
 // Demand 3: what settled answers are worth. No code: definitions (specs/Statement), and the chain of theorems from the rules of a step on
 // bytes to it (proofs/, the last link in proofs/Demand3).
 // Promises upward: for every set key, number of slots and list of inputs, the statement of specs/Statement holds of the rules' step.
-
-// Nothing is computed here.
-pub fn nothing() {}

@@ -133,15 +133,20 @@ impl Honest {
     pub fn day(inputs: &mut Inputs, set: &[u8; 16]) -> Vec<u8> {
         let mut host = Honest::new(set);
         for _ in 0..inputs.below(4) {
-            for _ in 0..inputs.below(25) {
-                let put = (inputs.below(2) == 0).then(|| match inputs.below(4) {
-                    0 => Value::None,
-                    n => Value::Fingerprint([n as u8; 32]),
-                });
-                host.ask(data(inputs), put);
-            }
-            host.settle();
+            host.day_more(inputs);
         }
         host.log
+    }
+
+    /// One epoch more, closed.
+    pub fn day_more(&mut self, inputs: &mut Inputs) {
+        for _ in 0..inputs.below(25) {
+            let put = (inputs.below(2) == 0).then(|| match inputs.below(4) {
+                0 => Value::None,
+                n => Value::Fingerprint([n as u8; 32]),
+            });
+            self.ask(data(inputs), put);
+        }
+        self.settle();
     }
 }

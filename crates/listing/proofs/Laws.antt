@@ -10,13 +10,15 @@ use lib.Seq.{length-take-le}
 use borrow.Author.Tests.{lt-leb, le-leb}
 use Rattle.words.specs.Splices.{splice}
 use Rattle.verdict.specs.Verdicts.{accepted}
-use Rattle.cache.specs.Caches.{wellLength, openedCache}
-use Rattle.state.specs.States.{Opening, opening, openDef, freshState, settled}
+use Rattle.words.proofs.Laws.{true-both}
+use Rattle.cache.specs.Caches.{wellLength, wellCache, openedCache}
+use Rattle.state.specs.States.{Opening, opening, openDef, freshState, settled, wellState}
+use Rattle.state.proofs.Laws.{open-well-state, open-well-cache, open-well-length}
 use Rattle.state.specs.declared.State.{State}
 use Rattle.state.specs.declared.Opened.{Opened}
 use Rattle.rules.specs.declared.Stepped.{Stepped}
 use Rattle.rules.specs.Steps.{Step, stepped, step}
-use Rattle.run.specs.Runs.{halts}
+use Rattle.run.specs.Runs.{halts, sound}
 use Rattle.text.specs.Text.{lineText, slotsText, endText}
 use Rattle.text.proofs.Laws.{Stored, stored-step, stored-rest}
 use Rattle.listing.specs.Listings.{rowThen, rowsFrom, listing}
@@ -50,8 +52,8 @@ module _ (log x₀ : List ℕ) (k₀ at n : ℕ) (st : State) (c : List ℕ) (po
     s .1 ∙ ap (splice out pos) (sym (rows-over (length log - n) log at n st c h)) ∙ left .bytes,
   )
 
-  -- a turn: the step on the rest l of the log at at gave r and left the cache as c′; its line ends at p, and y is what that leaves
-  module _ (r : Stepped) (c′ l : List ℕ) (el : l ≡ drop at log) (e : stepped r c′ ≡ step l st c) (h : at < length log) (g : n < length log) (p : ℕ) (y : List ℕ)
+  -- a turn: the step on the rest of the log gave r and left the cache as c′; its line ends at p, and y is what that leaves
+  module _ (r : Stepped) (c′ : List ℕ) (e : stepped r c′ ≡ step (drop at log) st c) (h : at < length log) (g : n < length log) (p : ℕ) (y : List ℕ)
       (fits : pos + length (lineText (n + 1) (getD log at 0) (r .verdict) (r .state .epoch .0)) ≤ length out)
       (s : Stored out pos (lineText (n + 1) (getD log at 0) (r .verdict) (r .state .epoch .0)) p y) where
     abbrev row : List ℕ
@@ -60,7 +62,7 @@ module _ (log x₀ : List ℕ) (k₀ at n : ℕ) (st : State) (c : List ℕ) (po
     turned : rowsFrom (length log - n) log at n st c ≡ rowThen (rowsFrom (length log - (n + 1)) log) log at n (stepped r c′)
     turned =
         rows-turn (length log - (n + 1)) (length log - n) log at n st c (omega arith) h
-        ∙ ap (rowThen (rowsFrom (length log - (n + 1)) log) log at n) (sym (e ∙ ap (λ (x : List ℕ). step x st c) el))
+        ∙ ap (rowThen (rowsFrom (length log - (n + 1)) log) log at n) (sym e)
 
     -- the rest, t, that follows the line
     module _ (t : List ℕ) (q : rowThen (rowsFrom (length log - (n + 1)) log) log at n (stepped r c′) ≡ row ++ t) where
@@ -87,6 +89,18 @@ module _ (log x₀ : List ℕ) (k₀ at n : ℕ) (st : State) (c : List ℕ) (po
 four-opened : (key c : List ℕ) → length c ≡ 768 → openDef key c ≡ opening (record { verdict = accepted; state = freshState key }) (openedCache 3)
 unfolding openDef wellLength
 four-opened key c e = rw e
+
+four-well : (c : List ℕ) → length c ≡ 768 → wellLength c ≡ true
+unfolding wellLength
+four-well c e = rw e
+
+-- neither 28 nor 1 applies to them
+pub four-sound : (key c d : List ℕ) (o : Opened) → opening o c ≡ openDef key d → length d ≡ 768 → sound (o .state) c ≡ true
+unfolding sound
+four-sound key c d o e n =
+    true-both _ _ (ap (λ (x : Opening). wellLength (x .bytes)) e ∙ open-well-length key d (four-well d n))
+    (true-both _ _ (ap (λ (x : Opening). wellState (x .answer .state)) e ∙ open-well-state key d (four-well d n))
+    (ap (λ (x : Opening). wellCache (x .bytes)) e ∙ open-well-cache key d (four-well d n)))
 
 -- the first line, and the rows behind it
 pub listed : (key log c d : List ℕ) (o : Opened) (st : State) → st ≡ o .state → opening o c ≡ openDef key d → length d ≡ 768

@@ -1,12 +1,17 @@
 // The listing of a log with four slots, into a lent buffer.
 // Promises upward: the text of the definition, for any key and any log that the program takes.
 ghost use mathlib.Core.Path.{_≡_};
+ghost use mathlib.Core.Bool.{true};
 ghost use Prim.Native.Nat.{ℕ, _+_, _*_, _≤_, _<_};
 ghost use lib.ListN.{length};
 ghost use Rattle.words.specs.Splices.{splice};
+ghost use Rattle.aes.specs.Aes.{expansion};
+ghost use Rattle.hash.specs.Hashes.{setBytes};
+ghost use Rattle.run.specs.Runs.{sound};
 ghost use Rattle.text.specs.Text.{lineText, endText};
 ghost use Rattle.listing.specs.Listings.{rowsFrom, listing};
 ghost use Rattle.listing.specs.Rooms.{logLimit, rowLimit, endLimit, rowsLimit, textLimit, Counts};
+use aes::Expanded;
 use state::State;
 
 // The longest log that is listed.
@@ -34,9 +39,10 @@ fn put_last(out: &mut [u8], at: usize, settled: u64, used: usize) -> usize
     text::put_end(out, at, settled, used as u64)
 }
 
-// The lines of a log's entries from its start on, and the last line, at at; where they end. The cache is room to work in. Inner.
-fn rows(log: &[u8], st: State, cache: &mut [u8], out: &mut [u8], at: usize) -> usize
-    requires { ⌜ (length (now log) ≤ logLimit) × (at + rowsLimit ≤ length (now out)) ⌝ }
+// The lines of a log's entries from its start on, and the last line, at at; where they end. x is the set key
+// expanded; the cache is room to work in. Inner.
+fn rows(x: Expanded, log: &[u8], st: State, cache: &mut [u8], out: &mut [u8], at: usize) -> usize
+    requires { ⌜ (length (now log) ≤ logLimit) × (at + rowsLimit ≤ length (now out)) × (sound st (now cache) ≡ true) × (x .bytes ≡ expansion (setBytes (st .set))) ⌝ }
     ensures { λ r. ⌜ (r ≡ at + length (rowsFrom (length (now (log .entry))) (now (log .entry)) 0 0 st (now (cache .entry)))) × (now (out .exit) ≡ splice (now (out .entry)) at (rowsFrom (length (now (log .entry))) (now (log .entry)) 0 0 st (now (cache .entry)))) × (r ≤ length (now (out .entry))) ⌝ }
 {
     let mut s = st;
@@ -45,7 +51,7 @@ fn rows(log: &[u8], st: State, cache: &mut [u8], out: &mut [u8], at: usize) -> u
     let mut end = at;
     while place < log.len() {
         let tag = log[place];
-        let r = step::step(reader::rest_at(log, place), s, cache);
+        let r = step::step_well(x, reader::rest_at(log, place), s, cache);
         let used = r.used;
         s = r.state;
         n += 1;
@@ -67,6 +73,7 @@ pub fn list(key: &[u8; 16], log: &[u8], out: &mut [u8]) -> usize
     let mut cache = [0u8; CACHE_BYTES];
     let opened = state::open(key, &mut cache);
     let st = opened.state;
+    let set = st.set;
     let at = text::put_slots(out, 0);
-    rows(log, st, &mut cache, out, at)
+    rows(hash::expanded(set), log, st, &mut cache, out, at)
 }

@@ -1,7 +1,6 @@
 // The rules: what each entry comes to, for any state and cache, as definitions (specs/) that the verifier's code, its reader and the
 // theorem about settled answers share. The declared types are those that the code returns.
-// Promises upward: document 01's examples M1 to M12 follow from the definitions; a refused entry changes nothing; an accepted one keeps
-// the state well formed.
+// Promises upward: document 01's examples M1 to M12 follow from the definitions.
 ghost use mathlib.Core.Path.{_≡_};
 ghost use Rattle.rules.specs.Outcomes.{gives};
 use state::State;

@@ -50,11 +50,18 @@ pub fn next_at(log: &[u8], at: usize) -> usize
 }
 
 impl<'a> Reader<'a> {
-    // At the start of a log.
-    pub fn new(log: &'a [u8]) -> Reader<'a>
-        ensures { λ r. ⌜ r ≡ placed (log .entry) 0 ⌝ }
+    // At a place of a log.
+    pub fn at(log: &'a [u8], place: usize) -> Reader<'a>
+        ensures { λ r. ⌜ r ≡ placed (log .entry) place ⌝ }
     {
-        Reader { log, at: 0 }
+        Reader { log, at: place }
+    }
+
+    // The log from the place on; nothing past its end.
+    pub fn rest(self) -> &'a [u8]
+        ensures { λ r. ⌜ now r ≡ drop (self .entry .at) (now (self .entry .log)) ⌝ }
+    {
+        rest_at(self.log, self.at)
     }
 
     // The entry at the place.

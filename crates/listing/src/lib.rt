@@ -51,7 +51,7 @@ fn rows(x: Expanded, log: &[u8], st: State, cache: &mut [u8], out: &mut [u8], at
     let mut end = at;
     while place < log.len() {
         let tag = log[place];
-        let r = step::step_well(x, reader::rest_at(log, place), s, cache);
+        let r = step::step_well(x, run::left(log, place), s, cache);
         let used = r.used;
         s = r.state;
         n += 1;

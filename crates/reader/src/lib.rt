@@ -1,6 +1,7 @@
 // The reader that keeps the lent log together with its place (document 01, "Verdict numbers", its last paragraph): thin functions over
 // the plain form, which has log and place apart.
-// Promises upward: the entry at the place, its body as a part of the log itself, and the reader behind it, for any log and any place.
+// Promises upward: the log from the place on, the entry there, its body as a part of the log itself, and the reader behind it, for any
+// log and any place.
 ghost use mathlib.Core.Path.{_≡_};
 ghost use Prim.Native.Nat.{_≤_};
 ghost use lib.ListN.{length, drop};

@@ -5,12 +5,14 @@ ghost use mathlib.Core.Path.{_≡_};
 ghost use mathlib.Core.Bool.{true};
 ghost use Prim.Native.Nat.{ℕ, _≤_};
 ghost use lib.Dec.{eqb};
+ghost use lib.ListN.{drop};
 ghost use Rattle.words.specs.Choice.{pick};
 ghost use Rattle.verdict.specs.Verdicts.{accepted};
 ghost use Rattle.aes.specs.Aes.{expansion};
 ghost use Rattle.hash.specs.Hashes.{setBytes};
 ghost use Rattle.run.specs.Runs.{running, halts, sound, run};
 use aes::Expanded;
+use reader::Reader;
 use state::State;
 use words::and;
 
@@ -46,6 +48,13 @@ pub fn sound(st: State, cache: &[u8]) -> bool
     )
 }
 
+// What is left of a log from a place on, by the reader that keeps the two together.
+pub fn left(log: &[u8], at: usize) -> &[u8]
+    ensures { λ r. ⌜ now r ≡ drop at (now (log .entry)) ⌝ }
+{
+    Reader::at(log, at).rest()
+}
+
 // One where the entry was accepted.
 fn counted(v: u32) -> u64
     ensures { λ r. ⌜ (r ≡ pick (eqb v accepted) 1 0) × (r ≤ 1) ⌝ }
@@ -66,7 +75,7 @@ fn run_well(x: Expanded, log: &[u8], st: State, cache: &mut [u8]) -> Ran
     let mut met: u64 = 0;
     let mut accepted: u64 = 0;
     while at < log.len() {
-        let r = step::step_well(x, reader::rest_at(log, at), s, cache);
+        let r = step::step_well(x, left(log, at), s, cache);
         let used = r.used;
         s = r.state;
         met += 1;

@@ -28,8 +28,8 @@ loop-holds c = (omega arith, omega arith, refl, refl, omega arith, record { well
 shared-slice-read-tag : tie.Need-shared-slice-read-tag Inv-loop μ-loop
 shared-slice-read-tag c = c .before .loop-test .taken
 
-rest-at-requires : tie.Need-rest-at-requires Inv-loop μ-loop
-rest-at-requires c κs = search needs
+left-requires : tie.Need-left-requires Inv-loop μ-loop
+left-requires c κs = search needs
 
 step-well-requires : tie.Need-step-well-requires Inv-loop μ-loop
 step-well-requires c κs = (going-state _ _ _ (c .before .before .before .before .loop .inv .5), going-key _ _ (c .before .before .before .before .loop .cache) _ (c .before .before .before .before .loop .inv .5) (c .before .before .before .before .before .before .before .before .pre .3))
@@ -56,17 +56,17 @@ same-length-2 : tie.Need-same-length-2 Inv-loop μ-loop
 same-length-2 c = c .before .before .put-last .kept .0 ∙ c .before .before .before .before .before .before .before .before .before .put-row .kept .0 ∙ c .before .before .before .before .before .before .before .before .before .before .before .before .before .before .before .before .before .before .before .loop .inv .3
 
 returns : tie.Need-returns Inv-loop μ-loop
-returns c = let t = left-stop (c .before .before .before .before .before .before .before .before .before .before .before .before .before .before .before .before .before .before .before .before .before .before .before .args .log .now) _ _ (c .before .before .before .before .before .before .before .before .before .before .before .before .before .before .before .before .before .before .before .loop .place) (c .before .before .before .before .before .before .before .before .before .before .before .before .before .before .before .before .before .before .before .loop .n) (c .before .before .before .before .before .before .before .before .before .before .before .before .before .before .before .before .before .before .before .loop .s) (c .before .before .before .before .before .before .before .before .before .before .before .before .before .before .before .before .before .before .before .loop .cache) (c .before .before .before .before .before .before .before .before .before .before .before .before .before .before .before .before .before .before .before .loop .end) (c .before .before .before .before .before .before .before .before .before .before .before .before .before .before .before .before .before .before .before .loop .out) (c .before .before .before .before .before .before .before .before .before .before .before .before .before .before .before .before .before .before .before .loop .inv .7) (c .before .before .before .before .before .before .before .before .before .before .before .before .before .before .step-well .result) _ (turn-step (c .before .before .before .before .before .before .before .before .before .before .before .before .before .before .before .before .before .before .before .before .before .before .before .args .log .now) (c .before .before .before .before .before .before .before .before .before .before .before .before .before .before .before .before .before .before .before .loop .place) (c .before .before .before .before .before .before .before .before .before .before .before .before .before .before .before .before .before .before .before .before .before .before .before .args .st .set) (c .before .before .before .before .before .before .before .before .before .before .before .before .before .before .before .before .before .before .before .loop .s) (c .before .before .before .before .before .before .before .before .before .before .before .before .before .before .before .before .before .before .before .loop .cache) (c .before .before .before .before .before .before .before .before .before .before .before .before .before .before .before .before .before .before .before .loop .inv .5) (c .before .before .before .before .before .before .before .before .before .before .before .before .before .before .step-well .result) _ _ (c .before .before .before .before .before .before .before .before .before .before .before .before .before .before .before .before .rest-at .ensures) (c .before .before .before .before .before .before .before .before .before .before .before .before .before .before .step-well .ensures)) (c .before .before .before .before .before .before .before .before .before .before .before .before .before .before .before .before .before .before .loop-test .taken) (omega (arith, c .before .before .before .before .before .before .before .before .before .before .before .before .before .before .before .before .before .before .loop-test .taken, c .before .before .before .before .before .before .before .before .before .before .before .before .before .before .before .before .before .before .before .loop .inv .1)) (c .before .before .before .before .before .before .before .before .before .put-row .result) _ (omega (arith, c .before .before .before .before .before .before .before .before .before .put-row .ensures .2, c .before .before .before .before .before .before .before .before .before .before .before .before .before .before .before .before .before .before .loop-test .taken, c .before .before .before .before .before .before .before .before .before .before .before .before .before .before .before .before .before .before .before .loop .inv .0, c .before .before .before .before .before .before .before .before .before .before .before .before .before .before .before .before .before .before .before .loop .inv .1, c .before .before .before .before .before .before .before .before .before .before .before .before .before .before .before .before .before .before .before .loop .inv .3, c .before .before .before .before .before .before .before .before .before .before .before .before .before .before .before .before .before .before .before .loop .inv .4, c .before .before .before .before .before .before .before .before .before .before .before .before .before .before .before .before .before .before .before .before .before .before .before .pre .0, c .before .before .before .before .before .before .before .before .before .before .before .before .before .before .before .before .before .before .before .before .before .before .before .pre .1)) (c .before .before .before .before .before .before .before .before .before .put-row .ensures .0, c .before .before .before .before .before .before .before .before .before .put-row .ensures .1) (sym (c .before .before .before .before .before .before .halts .ensures) ∙ c .before .before .before .before .before .if1 .taken) _ _ (stored-as _ _ _ _ _ _ (ap (λ (k : ℕ). endText k (c .before .before .before .before .before .before .before .before .before .before .before .before .before .before .before .before .before .before .before .loop .place)) (c .before .before .before .settled .ensures)) (c .before .before .put-last .ensures .0, c .before .before .put-last .ensures .1)) in
+returns c = let t = left-stop (c .before .before .before .before .before .before .before .before .before .before .before .before .before .before .before .before .before .before .before .before .before .before .before .args .log .now) _ _ (c .before .before .before .before .before .before .before .before .before .before .before .before .before .before .before .before .before .before .before .loop .place) (c .before .before .before .before .before .before .before .before .before .before .before .before .before .before .before .before .before .before .before .loop .n) (c .before .before .before .before .before .before .before .before .before .before .before .before .before .before .before .before .before .before .before .loop .s) (c .before .before .before .before .before .before .before .before .before .before .before .before .before .before .before .before .before .before .before .loop .cache) (c .before .before .before .before .before .before .before .before .before .before .before .before .before .before .before .before .before .before .before .loop .end) (c .before .before .before .before .before .before .before .before .before .before .before .before .before .before .before .before .before .before .before .loop .out) (c .before .before .before .before .before .before .before .before .before .before .before .before .before .before .before .before .before .before .before .loop .inv .7) (c .before .before .before .before .before .before .before .before .before .before .before .before .before .before .step-well .result) _ (turn-step (c .before .before .before .before .before .before .before .before .before .before .before .before .before .before .before .before .before .before .before .before .before .before .before .args .log .now) (c .before .before .before .before .before .before .before .before .before .before .before .before .before .before .before .before .before .before .before .loop .place) (c .before .before .before .before .before .before .before .before .before .before .before .before .before .before .before .before .before .before .before .before .before .before .before .args .st .set) (c .before .before .before .before .before .before .before .before .before .before .before .before .before .before .before .before .before .before .before .loop .s) (c .before .before .before .before .before .before .before .before .before .before .before .before .before .before .before .before .before .before .before .loop .cache) (c .before .before .before .before .before .before .before .before .before .before .before .before .before .before .before .before .before .before .before .loop .inv .5) (c .before .before .before .before .before .before .before .before .before .before .before .before .before .before .step-well .result) _ _ (c .before .before .before .before .before .before .before .before .before .before .before .before .before .before .before .before .left .ensures) (c .before .before .before .before .before .before .before .before .before .before .before .before .before .before .step-well .ensures)) (c .before .before .before .before .before .before .before .before .before .before .before .before .before .before .before .before .before .before .loop-test .taken) (omega (arith, c .before .before .before .before .before .before .before .before .before .before .before .before .before .before .before .before .before .before .loop-test .taken, c .before .before .before .before .before .before .before .before .before .before .before .before .before .before .before .before .before .before .before .loop .inv .1)) (c .before .before .before .before .before .before .before .before .before .put-row .result) _ (omega (arith, c .before .before .before .before .before .before .before .before .before .put-row .ensures .2, c .before .before .before .before .before .before .before .before .before .before .before .before .before .before .before .before .before .before .loop-test .taken, c .before .before .before .before .before .before .before .before .before .before .before .before .before .before .before .before .before .before .before .loop .inv .0, c .before .before .before .before .before .before .before .before .before .before .before .before .before .before .before .before .before .before .before .loop .inv .1, c .before .before .before .before .before .before .before .before .before .before .before .before .before .before .before .before .before .before .before .loop .inv .3, c .before .before .before .before .before .before .before .before .before .before .before .before .before .before .before .before .before .before .before .loop .inv .4, c .before .before .before .before .before .before .before .before .before .before .before .before .before .before .before .before .before .before .before .before .before .before .before .pre .0, c .before .before .before .before .before .before .before .before .before .before .before .before .before .before .before .before .before .before .before .before .before .before .before .pre .1)) (c .before .before .before .before .before .before .before .before .before .put-row .ensures .0, c .before .before .before .before .before .before .before .before .before .put-row .ensures .1) (sym (c .before .before .before .before .before .before .halts .ensures) ∙ c .before .before .before .before .before .if1 .taken) _ _ (stored-as _ _ _ _ _ _ (ap (λ (k : ℕ). endText k (c .before .before .before .before .before .before .before .before .before .before .before .before .before .before .before .before .before .before .before .loop .place)) (c .before .before .before .settled .ensures)) (c .before .before .put-last .ensures .0, c .before .before .put-last .ensures .1)) in
     (t .0, t .1, omega (arith, c .before .before .put-last .ensures .2, c .before .before .before .before .before .before .before .before .before .put-row .kept .0, c .before .before .before .before .before .before .before .before .before .before .before .before .before .before .before .before .before .before .before .loop .inv .3))
 
 add-place : tie.Need-add-place Inv-loop μ-loop
-add-place c = omega (arith, turn-there (c .before .before .before .before .before .before .before .before .before .before .before .before .before .before .before .before .before .before .args .log .now) (c .before .before .before .before .before .before .before .before .before .before .before .before .before .before .loop .place) (c .before .before .before .before .before .before .before .before .before .before .before .before .before .before .before .before .before .before .args .st .set) (c .before .before .before .before .before .before .before .before .before .before .before .before .before .before .loop .s) (c .before .before .before .before .before .before .before .before .before .before .before .before .before .before .loop .cache) (c .before .before .before .before .before .before .before .before .before .before .before .before .before .before .loop .inv .5) (c .before .before .before .before .before .before .before .before .before .step-well .result) _ _ (c .before .before .before .before .before .before .before .before .before .before .before .rest-at .ensures) (c .before .before .before .before .before .before .before .before .before .step-well .ensures) (omega (arith, c .before .before .before .before .before .before .before .before .before .before .before .before .before .loop-test .taken)), c .before .before .before .before .before .before .before .before .before .before .before .before .before .loop-test .taken, c .before .before .before .before .before .before .before .before .before .before .before .before .before .before .loop .inv .0, c .before .before .before .before .before .before .before .before .before .before .before .before .before .before .loop .inv .1, c .before .before .before .before .before .before .before .before .before .before .before .before .before .before .loop .inv .3, c .before .before .before .before .before .before .before .before .before .before .before .before .before .before .loop .inv .4, c .before .before .before .before .before .before .before .before .before .before .before .before .before .before .before .before .before .before .pre .0, c .before .before .before .before .before .before .before .before .before .before .before .before .before .before .before .before .before .before .pre .1)
+add-place c = omega (arith, turn-there (c .before .before .before .before .before .before .before .before .before .before .before .before .before .before .before .before .before .before .args .log .now) (c .before .before .before .before .before .before .before .before .before .before .before .before .before .before .loop .place) (c .before .before .before .before .before .before .before .before .before .before .before .before .before .before .before .before .before .before .args .st .set) (c .before .before .before .before .before .before .before .before .before .before .before .before .before .before .loop .s) (c .before .before .before .before .before .before .before .before .before .before .before .before .before .before .loop .cache) (c .before .before .before .before .before .before .before .before .before .before .before .before .before .before .loop .inv .5) (c .before .before .before .before .before .before .before .before .before .step-well .result) _ _ (c .before .before .before .before .before .before .before .before .before .before .before .left .ensures) (c .before .before .before .before .before .before .before .before .before .step-well .ensures) (omega (arith, c .before .before .before .before .before .before .before .before .before .before .before .before .before .loop-test .taken)), c .before .before .before .before .before .before .before .before .before .before .before .before .before .loop-test .taken, c .before .before .before .before .before .before .before .before .before .before .before .before .before .before .loop .inv .0, c .before .before .before .before .before .before .before .before .before .before .before .before .before .before .loop .inv .1, c .before .before .before .before .before .before .before .before .before .before .before .before .before .before .loop .inv .3, c .before .before .before .before .before .before .before .before .before .before .before .before .before .before .loop .inv .4, c .before .before .before .before .before .before .before .before .before .before .before .before .before .before .before .before .before .before .pre .0, c .before .before .before .before .before .before .before .before .before .before .before .before .before .before .before .before .before .before .pre .1)
 
 loop-less : tie.Need-loop-less Inv-loop μ-loop
-loop-less c = omega (arith, turn-there (c .before .before .before .before .before .before .before .before .before .before .before .before .before .before .before .before .before .before .args .log .now) (c .before .before .before .before .before .before .before .before .before .before .before .before .before .before .loop .place) (c .before .before .before .before .before .before .before .before .before .before .before .before .before .before .before .before .before .before .args .st .set) (c .before .before .before .before .before .before .before .before .before .before .before .before .before .before .loop .s) (c .before .before .before .before .before .before .before .before .before .before .before .before .before .before .loop .cache) (c .before .before .before .before .before .before .before .before .before .before .before .before .before .before .loop .inv .5) (c .before .before .before .before .before .before .before .before .before .step-well .result) _ _ (c .before .before .before .before .before .before .before .before .before .before .before .rest-at .ensures) (c .before .before .before .before .before .before .before .before .before .step-well .ensures) (omega (arith, c .before .before .before .before .before .before .before .before .before .before .before .before .before .loop-test .taken)), turn-goes (c .before .before .before .before .before .before .before .before .before .before .before .before .before .before .before .before .before .before .args .log .now) (c .before .before .before .before .before .before .before .before .before .before .before .before .before .before .loop .place) (c .before .before .before .before .before .before .before .before .before .before .before .before .before .before .before .before .before .before .args .st .set) (c .before .before .before .before .before .before .before .before .before .before .before .before .before .before .loop .s) (c .before .before .before .before .before .before .before .before .before .before .before .before .before .before .loop .cache) (c .before .before .before .before .before .before .before .before .before .before .before .before .before .before .loop .inv .5) (c .before .before .before .before .before .before .before .before .before .step-well .result) _ _ (c .before .before .before .before .before .before .before .before .before .before .before .rest-at .ensures) (c .before .before .before .before .before .before .before .before .before .step-well .ensures) (sym (c .before .halts .ensures) ∙ c .if1 .left), c .before .before .before .before .before .before .before .before .before .before .before .before .before .loop-test .taken, c .before .before .before .before .before .before .before .before .before .before .before .before .before .before .loop .inv .0, c .before .before .before .before .before .before .before .before .before .before .before .before .before .before .loop .inv .1, c .before .before .before .before .before .before .before .before .before .before .before .before .before .before .loop .inv .3, c .before .before .before .before .before .before .before .before .before .before .before .before .before .before .loop .inv .4, c .before .before .before .before .before .before .before .before .before .before .before .before .before .before .before .before .before .before .pre .0, c .before .before .before .before .before .before .before .before .before .before .before .before .before .before .before .before .before .before .pre .1)
+loop-less c = omega (arith, turn-there (c .before .before .before .before .before .before .before .before .before .before .before .before .before .before .before .before .before .before .args .log .now) (c .before .before .before .before .before .before .before .before .before .before .before .before .before .before .loop .place) (c .before .before .before .before .before .before .before .before .before .before .before .before .before .before .before .before .before .before .args .st .set) (c .before .before .before .before .before .before .before .before .before .before .before .before .before .before .loop .s) (c .before .before .before .before .before .before .before .before .before .before .before .before .before .before .loop .cache) (c .before .before .before .before .before .before .before .before .before .before .before .before .before .before .loop .inv .5) (c .before .before .before .before .before .before .before .before .before .step-well .result) _ _ (c .before .before .before .before .before .before .before .before .before .before .before .left .ensures) (c .before .before .before .before .before .before .before .before .before .step-well .ensures) (omega (arith, c .before .before .before .before .before .before .before .before .before .before .before .before .before .loop-test .taken)), turn-goes (c .before .before .before .before .before .before .before .before .before .before .before .before .before .before .before .before .before .before .args .log .now) (c .before .before .before .before .before .before .before .before .before .before .before .before .before .before .loop .place) (c .before .before .before .before .before .before .before .before .before .before .before .before .before .before .before .before .before .before .args .st .set) (c .before .before .before .before .before .before .before .before .before .before .before .before .before .before .loop .s) (c .before .before .before .before .before .before .before .before .before .before .before .before .before .before .loop .cache) (c .before .before .before .before .before .before .before .before .before .before .before .before .before .before .loop .inv .5) (c .before .before .before .before .before .before .before .before .before .step-well .result) _ _ (c .before .before .before .before .before .before .before .before .before .before .before .left .ensures) (c .before .before .before .before .before .before .before .before .before .step-well .ensures) (sym (c .before .halts .ensures) ∙ c .if1 .left), c .before .before .before .before .before .before .before .before .before .before .before .before .before .loop-test .taken, c .before .before .before .before .before .before .before .before .before .before .before .before .before .before .loop .inv .0, c .before .before .before .before .before .before .before .before .before .before .before .before .before .before .loop .inv .1, c .before .before .before .before .before .before .before .before .before .before .before .before .before .before .loop .inv .3, c .before .before .before .before .before .before .before .before .before .before .before .before .before .before .loop .inv .4, c .before .before .before .before .before .before .before .before .before .before .before .before .before .before .before .before .before .before .pre .0, c .before .before .before .before .before .before .before .before .before .before .before .before .before .before .before .before .before .before .pre .1)
 
 loop-again : tie.Need-loop-again Inv-loop μ-loop
-loop-again c = (turn-there (c .before .before .before .before .before .before .before .before .before .before .before .before .before .before .before .before .before .before .args .log .now) (c .before .before .before .before .before .before .before .before .before .before .before .before .before .before .loop .place) (c .before .before .before .before .before .before .before .before .before .before .before .before .before .before .before .before .before .before .args .st .set) (c .before .before .before .before .before .before .before .before .before .before .before .before .before .before .loop .s) (c .before .before .before .before .before .before .before .before .before .before .before .before .before .before .loop .cache) (c .before .before .before .before .before .before .before .before .before .before .before .before .before .before .loop .inv .5) (c .before .before .before .before .before .before .before .before .before .step-well .result) _ _ (c .before .before .before .before .before .before .before .before .before .before .before .rest-at .ensures) (c .before .before .before .before .before .before .before .before .before .step-well .ensures) (omega (arith, c .before .before .before .before .before .before .before .before .before .before .before .before .before .loop-test .taken)), omega (arith, turn-goes (c .before .before .before .before .before .before .before .before .before .before .before .before .before .before .before .before .before .before .args .log .now) (c .before .before .before .before .before .before .before .before .before .before .before .before .before .before .loop .place) (c .before .before .before .before .before .before .before .before .before .before .before .before .before .before .before .before .before .before .args .st .set) (c .before .before .before .before .before .before .before .before .before .before .before .before .before .before .loop .s) (c .before .before .before .before .before .before .before .before .before .before .before .before .before .before .loop .cache) (c .before .before .before .before .before .before .before .before .before .before .before .before .before .before .loop .inv .5) (c .before .before .before .before .before .before .before .before .before .step-well .result) _ _ (c .before .before .before .before .before .before .before .before .before .before .before .rest-at .ensures) (c .before .before .before .before .before .before .before .before .before .step-well .ensures) (sym (c .before .halts .ensures) ∙ c .if1 .left), c .before .before .before .before .before .before .before .before .before .before .before .before .before .loop-test .taken, c .before .before .before .before .before .before .before .before .before .before .before .before .before .before .loop .inv .0, c .before .before .before .before .before .before .before .before .before .before .before .before .before .before .loop .inv .1, c .before .before .before .before .before .before .before .before .before .before .before .before .before .before .loop .inv .3, c .before .before .before .before .before .before .before .before .before .before .before .before .before .before .loop .inv .4, c .before .before .before .before .before .before .before .before .before .before .before .before .before .before .before .before .before .before .pre .0, c .before .before .before .before .before .before .before .before .before .before .before .before .before .before .before .before .before .before .pre .1), c .before .before .before .before .before .before .before .before .before .step-well .kept .1 .1 .1 .0 ∙ c .before .before .before .before .before .before .before .before .before .before .before .before .before .before .loop .inv .2, c .before .before .before .before .put-row .kept .0 ∙ c .before .before .before .before .before .before .before .before .before .before .before .before .before .before .loop .inv .3, omega (arith, c .before .before .before .before .put-row .ensures .0, c .before .before .before .before .put-row .ensures .2, c .before .before .before .before .before .before .before .before .before .before .before .before .before .before .loop .inv .4), turn-going (c .before .before .before .before .before .before .before .before .before .before .before .before .before .before .before .before .before .before .args .log .now) (c .before .before .before .before .before .before .before .before .before .before .before .before .before .before .loop .place) (c .before .before .before .before .before .before .before .before .before .before .before .before .before .before .before .before .before .before .args .st .set) (c .before .before .before .before .before .before .before .before .before .before .before .before .before .before .loop .s) (c .before .before .before .before .before .before .before .before .before .before .before .before .before .before .loop .cache) (c .before .before .before .before .before .before .before .before .before .before .before .before .before .before .loop .inv .5) (c .before .before .before .before .before .before .before .before .before .step-well .result) _ _ (c .before .before .before .before .before .before .before .before .before .before .before .rest-at .ensures) (c .before .before .before .before .before .before .before .before .before .step-well .ensures) (λ i. c .before .before .before .before .before .before .before .before .before .before .before .before .before .before .before .before .before .shared-slice-known .given i .fits) (c .before .before .before .before .before .before .before .before .before .before .before .before .before .before .loop .inv .6), λ i. c .before .before .before .before .before .before .before .slice-known3 .given i .fits, left-on (c .before .before .before .before .before .before .before .before .before .before .before .before .before .before .before .before .before .before .args .log .now) _ _ (c .before .before .before .before .before .before .before .before .before .before .before .before .before .before .loop .place) (c .before .before .before .before .before .before .before .before .before .before .before .before .before .before .loop .n) (c .before .before .before .before .before .before .before .before .before .before .before .before .before .before .loop .s) (c .before .before .before .before .before .before .before .before .before .before .before .before .before .before .loop .cache) (c .before .before .before .before .before .before .before .before .before .before .before .before .before .before .loop .end) (c .before .before .before .before .before .before .before .before .before .before .before .before .before .before .loop .out) (c .before .before .before .before .before .before .before .before .before .before .before .before .before .before .loop .inv .7) (c .before .before .before .before .before .before .before .before .before .step-well .result) _ (turn-step (c .before .before .before .before .before .before .before .before .before .before .before .before .before .before .before .before .before .before .args .log .now) (c .before .before .before .before .before .before .before .before .before .before .before .before .before .before .loop .place) (c .before .before .before .before .before .before .before .before .before .before .before .before .before .before .before .before .before .before .args .st .set) (c .before .before .before .before .before .before .before .before .before .before .before .before .before .before .loop .s) (c .before .before .before .before .before .before .before .before .before .before .before .before .before .before .loop .cache) (c .before .before .before .before .before .before .before .before .before .before .before .before .before .before .loop .inv .5) (c .before .before .before .before .before .before .before .before .before .step-well .result) _ _ (c .before .before .before .before .before .before .before .before .before .before .before .rest-at .ensures) (c .before .before .before .before .before .before .before .before .before .step-well .ensures)) (c .before .before .before .before .before .before .before .before .before .before .before .before .before .loop-test .taken) (omega (arith, c .before .before .before .before .before .before .before .before .before .before .before .before .before .loop-test .taken, c .before .before .before .before .before .before .before .before .before .before .before .before .before .before .loop .inv .1)) (c .before .before .before .before .put-row .result) _ (omega (arith, c .before .before .before .before .put-row .ensures .2, c .before .before .before .before .before .before .before .before .before .before .before .before .before .loop-test .taken, c .before .before .before .before .before .before .before .before .before .before .before .before .before .before .loop .inv .0, c .before .before .before .before .before .before .before .before .before .before .before .before .before .before .loop .inv .1, c .before .before .before .before .before .before .before .before .before .before .before .before .before .before .loop .inv .3, c .before .before .before .before .before .before .before .before .before .before .before .before .before .before .loop .inv .4, c .before .before .before .before .before .before .before .before .before .before .before .before .before .before .before .before .before .before .pre .0, c .before .before .before .before .before .before .before .before .before .before .before .before .before .before .before .before .before .before .pre .1)) (c .before .before .before .before .put-row .ensures .0, c .before .before .before .before .put-row .ensures .1) (sym (c .before .halts .ensures) ∙ c .if1 .left))
+loop-again c = (turn-there (c .before .before .before .before .before .before .before .before .before .before .before .before .before .before .before .before .before .before .args .log .now) (c .before .before .before .before .before .before .before .before .before .before .before .before .before .before .loop .place) (c .before .before .before .before .before .before .before .before .before .before .before .before .before .before .before .before .before .before .args .st .set) (c .before .before .before .before .before .before .before .before .before .before .before .before .before .before .loop .s) (c .before .before .before .before .before .before .before .before .before .before .before .before .before .before .loop .cache) (c .before .before .before .before .before .before .before .before .before .before .before .before .before .before .loop .inv .5) (c .before .before .before .before .before .before .before .before .before .step-well .result) _ _ (c .before .before .before .before .before .before .before .before .before .before .before .left .ensures) (c .before .before .before .before .before .before .before .before .before .step-well .ensures) (omega (arith, c .before .before .before .before .before .before .before .before .before .before .before .before .before .loop-test .taken)), omega (arith, turn-goes (c .before .before .before .before .before .before .before .before .before .before .before .before .before .before .before .before .before .before .args .log .now) (c .before .before .before .before .before .before .before .before .before .before .before .before .before .before .loop .place) (c .before .before .before .before .before .before .before .before .before .before .before .before .before .before .before .before .before .before .args .st .set) (c .before .before .before .before .before .before .before .before .before .before .before .before .before .before .loop .s) (c .before .before .before .before .before .before .before .before .before .before .before .before .before .before .loop .cache) (c .before .before .before .before .before .before .before .before .before .before .before .before .before .before .loop .inv .5) (c .before .before .before .before .before .before .before .before .before .step-well .result) _ _ (c .before .before .before .before .before .before .before .before .before .before .before .left .ensures) (c .before .before .before .before .before .before .before .before .before .step-well .ensures) (sym (c .before .halts .ensures) ∙ c .if1 .left), c .before .before .before .before .before .before .before .before .before .before .before .before .before .loop-test .taken, c .before .before .before .before .before .before .before .before .before .before .before .before .before .before .loop .inv .0, c .before .before .before .before .before .before .before .before .before .before .before .before .before .before .loop .inv .1, c .before .before .before .before .before .before .before .before .before .before .before .before .before .before .loop .inv .3, c .before .before .before .before .before .before .before .before .before .before .before .before .before .before .loop .inv .4, c .before .before .before .before .before .before .before .before .before .before .before .before .before .before .before .before .before .before .pre .0, c .before .before .before .before .before .before .before .before .before .before .before .before .before .before .before .before .before .before .pre .1), c .before .before .before .before .before .before .before .before .before .step-well .kept .1 .1 .1 .0 ∙ c .before .before .before .before .before .before .before .before .before .before .before .before .before .before .loop .inv .2, c .before .before .before .before .put-row .kept .0 ∙ c .before .before .before .before .before .before .before .before .before .before .before .before .before .before .loop .inv .3, omega (arith, c .before .before .before .before .put-row .ensures .0, c .before .before .before .before .put-row .ensures .2, c .before .before .before .before .before .before .before .before .before .before .before .before .before .before .loop .inv .4), turn-going (c .before .before .before .before .before .before .before .before .before .before .before .before .before .before .before .before .before .before .args .log .now) (c .before .before .before .before .before .before .before .before .before .before .before .before .before .before .loop .place) (c .before .before .before .before .before .before .before .before .before .before .before .before .before .before .before .before .before .before .args .st .set) (c .before .before .before .before .before .before .before .before .before .before .before .before .before .before .loop .s) (c .before .before .before .before .before .before .before .before .before .before .before .before .before .before .loop .cache) (c .before .before .before .before .before .before .before .before .before .before .before .before .before .before .loop .inv .5) (c .before .before .before .before .before .before .before .before .before .step-well .result) _ _ (c .before .before .before .before .before .before .before .before .before .before .before .left .ensures) (c .before .before .before .before .before .before .before .before .before .step-well .ensures) (λ i. c .before .before .before .before .before .before .before .before .before .before .before .before .before .before .before .before .before .shared-slice-known .given i .fits) (c .before .before .before .before .before .before .before .before .before .before .before .before .before .before .loop .inv .6), λ i. c .before .before .before .before .before .before .before .slice-known3 .given i .fits, left-on (c .before .before .before .before .before .before .before .before .before .before .before .before .before .before .before .before .before .before .args .log .now) _ _ (c .before .before .before .before .before .before .before .before .before .before .before .before .before .before .loop .place) (c .before .before .before .before .before .before .before .before .before .before .before .before .before .before .loop .n) (c .before .before .before .before .before .before .before .before .before .before .before .before .before .before .loop .s) (c .before .before .before .before .before .before .before .before .before .before .before .before .before .before .loop .cache) (c .before .before .before .before .before .before .before .before .before .before .before .before .before .before .loop .end) (c .before .before .before .before .before .before .before .before .before .before .before .before .before .before .loop .out) (c .before .before .before .before .before .before .before .before .before .before .before .before .before .before .loop .inv .7) (c .before .before .before .before .before .before .before .before .before .step-well .result) _ (turn-step (c .before .before .before .before .before .before .before .before .before .before .before .before .before .before .before .before .before .before .args .log .now) (c .before .before .before .before .before .before .before .before .before .before .before .before .before .before .loop .place) (c .before .before .before .before .before .before .before .before .before .before .before .before .before .before .before .before .before .before .args .st .set) (c .before .before .before .before .before .before .before .before .before .before .before .before .before .before .loop .s) (c .before .before .before .before .before .before .before .before .before .before .before .before .before .before .loop .cache) (c .before .before .before .before .before .before .before .before .before .before .before .before .before .before .loop .inv .5) (c .before .before .before .before .before .before .before .before .before .step-well .result) _ _ (c .before .before .before .before .before .before .before .before .before .before .before .left .ensures) (c .before .before .before .before .before .before .before .before .before .step-well .ensures)) (c .before .before .before .before .before .before .before .before .before .before .before .before .before .loop-test .taken) (omega (arith, c .before .before .before .before .before .before .before .before .before .before .before .before .before .loop-test .taken, c .before .before .before .before .before .before .before .before .before .before .before .before .before .before .loop .inv .1)) (c .before .before .before .before .put-row .result) _ (omega (arith, c .before .before .before .before .put-row .ensures .2, c .before .before .before .before .before .before .before .before .before .before .before .before .before .loop-test .taken, c .before .before .before .before .before .before .before .before .before .before .before .before .before .before .loop .inv .0, c .before .before .before .before .before .before .before .before .before .before .before .before .before .before .loop .inv .1, c .before .before .before .before .before .before .before .before .before .before .before .before .before .before .loop .inv .3, c .before .before .before .before .before .before .before .before .before .before .before .before .before .before .loop .inv .4, c .before .before .before .before .before .before .before .before .before .before .before .before .before .before .before .before .before .before .pre .0, c .before .before .before .before .before .before .before .before .before .before .before .before .before .before .before .before .before .before .pre .1)) (c .before .before .before .before .put-row .ensures .0, c .before .before .before .before .put-row .ensures .1) (sym (c .before .halts .ensures) ∙ c .if1 .left))
 
 settled-requires-2 : tie.Need-settled-requires-2 Inv-loop μ-loop
 settled-requires-2 c κs = search needs
@@ -92,7 +92,7 @@ rows-spec =
     μ-loop
     loop-holds
     shared-slice-read-tag
-    rest-at-requires
+    left-requires
     step-well-requires
     add-n
     put-row-requires

@@ -45,16 +45,15 @@ returns-2 c =
     let k = c .before .before .before .before .before .before .before .step .ensures in
     simp
     (sym (c .before .before .before .before .before .before .before .before .before .before .before .before .before .read-state .ensures)
-    ∙ c .before .before .before .before .before .before .before .before .before .before .before .st .given .1)
-    (
+    ∙ c .before .before .before .before .before .before .before .before .before .before .before .st .given .1) (
       ap (λ (x : Step). x .result .verdict) k,
       (
         c .before .before .write-state .ensures ∙ ap (λ (x : Step). stateBytes (x .result .state)) k,
         (
           ap (λ (x : Step). x .bytes) k,
-          told _ _ _ _ _ _ (c .before .answer-epoch .ensures) (c .before .before .before .before .before .before .before .before .before .first-byte .ensures) k
-        )
-      )
+          told _ _ _ _ _ _ (c .before .answer-epoch .ensures) (c .before .before .before .before .before .before .before .before .before .first-byte .ensures) k,
+        ),
+      ),
     )
 
 pub thiraduan-step-spec : {M : Type 1} → statement M

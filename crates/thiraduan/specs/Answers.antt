@@ -7,8 +7,13 @@ use lib.Dec.{leb, eqb}
 use Rattle.words.specs.Choice.{pick, both}
 use Rattle.verdict.specs.Verdicts.{accepted, notWell, malformed, short}
 use Rattle.entry.specs.Entries.{readEntry}
+use Rattle.entry.specs.declared.EntryRead.{EntryRead}
+use Rattle.entry.specs.declared.EntryRead.the-variants as entryRead
 use Rattle.entry.specs.declared.Reading.{Reading}
 use Rattle.entry.specs.declared.Reading.the-variants as reading
+use Rattle.key.specs.Keys.{keyBytes}
+use Rattle.fields.specs.Forms.{fieldsOf, numbersOf, valueField, entryFrom}
+use Rattle.fields.specs.declared.Fields.{Fields}
 use Rattle.flat.specs.Flats.{stateAt, stateBytes}
 use Rattle.flat.specs.declared.StateRead.{StateRead}
 use Rattle.flat.specs.declared.StateRead.the-variants as stateRead
@@ -24,14 +29,37 @@ abbrev pub flag : Bool → ℕ
 flag true = 1
 flag false = 0
 
--- an entry that was read, written to a buffer
-abbrev pub writtenFrom : Reading → List ℕ → Writing
-writtenFrom reading.Short out = unwritten short out
-writtenFrom (reading.Malformed n) out = unwritten malformed out
-writtenFrom (reading.Good e n) out = writeEntry e out
+-- ---- entries
 
-unfoldable pub rewritten : List ℕ → List ℕ → Writing
-rewritten log out = writtenFrom (readEntry log) out
+-- an entry read: verdict, the bytes used, its five numbers, its key, its value and then zeros
+pub record FlatRead : Type 0 where
+  pub verdict : ℕ
+  pub used : ℕ
+  pub numbers : List ℕ
+  pub key : List ℕ
+  pub value : List ℕ
+
+abbrev pub flatFields : ℕ → Fields → FlatRead
+flatFields m f = record { verdict = accepted; used = m; numbers = numbersOf f; key = keyBytes (f .key); value = valueField (f .value) }
+
+-- 3 and 2 leave numbers, key and value as they were
+abbrev pub flatReadBy : List ℕ → List ℕ → List ℕ → Reading → FlatRead
+flatReadBy n k x reading.Short = record { verdict = short; used = 0; numbers = n; key = k; value = x }
+flatReadBy n k x (reading.Malformed m) = record { verdict = malformed; used = m; numbers = n; key = k; value = x }
+flatReadBy n k x (reading.Good e m) = flatFields m (fieldsOf e)
+
+unfoldable pub flatRead : List ℕ → List ℕ → List ℕ → List ℕ → FlatRead
+flatRead log n k x = flatReadBy n k x (readEntry log)
+
+-- 2 where the fields are no entry; else the writer's answer
+abbrev pub flatWriteBy : List ℕ → EntryRead → Writing
+flatWriteBy out entryRead.Bad = unwritten malformed out
+flatWriteBy out (entryRead.Good e) = writeEntry e out
+
+unfoldable pub flatWrite : List ℕ → List ℕ → List ℕ → List ℕ → Writing
+flatWrite n k x out = flatWriteBy out (entryFrom n k x)
+
+-- ---- the verifier, on a state's 129 bytes
 
 -- the epoch that an accepted get (6) or absence (7) is settled with, by its verdict, its tag and the epoch current at it; 0 for what is no answer
 unfoldable pub answerEpoch : ℕ → ℕ → ℕ → ℕ

@@ -6,10 +6,10 @@ ghost use Rattle.aes.specs.Aes.{expansion, encrypted};
 ghost use Rattle.cmac.specs.Tags.{tagOf, tagWith};
 ghost use Rattle.flat.specs.Flats.{stateBytes};
 ghost use Rattle.state.specs.States.{openDef};
-ghost use Rattle.entry.specs.Entries.{readEntry, readingVerdict, readingUsed};
 ghost use Rattle.sha256.specs.Sha256.{digestOf};
 ghost use Rattle.term.specs.Terms.{termKey, matches};
-ghost use Rattle.thiraduan.specs.Answers.{flag, rewritten, answerEpoch, flatStep, flatRun, isSettled, flatSettled};
+ghost use Rattle.thiraduan.specs.Answers.{flag, flatRead, flatWrite, answerEpoch, flatStep, flatRun, isSettled, flatSettled};
+use entry::EntryRead;
 use entry::Reading;
 use flat::StateRead;
 use state::State;
@@ -107,11 +107,21 @@ pub extern "C" fn thiraduan_encrypt(expanded: &[u8; 176], block: &[u8; 16], out:
     *out = b;
 }
 
-// The entry at the start of log: 0, 2 or 3, and its whole length, or 0 with 3, to used.
+// The entry at the start of log: 0, 2 or 3, and its whole length, or 0 with 3, to used. With 0 its tag, s, p, epoch and time go to numbers, its key to key,
+// and its value, and then zeros, to value; what it does not have is 0, the root key or the value none. With 2 and 3 these are untouched.
 #[no_mangle]
-pub extern "C" fn thiraduan_read(log: &[u8], used: &mut u64) -> u32
-    ensures { λ r. ⌜ r ≡ readingVerdict (readEntry (now (log .entry))) ⌝ }
-    ensures { λ _. ⌜ now (used .exit) ≡ readingUsed (readEntry (now (log .entry))) ⌝ }
+pub extern "C" fn thiraduan_read(
+    log: &[u8],
+    used: &mut u64,
+    numbers: &mut [u64; 5],
+    key: &mut [u8; 34],
+    value: &mut [u8; 137],
+) -> u32
+    ensures { λ r. ⌜ r ≡ flatRead (now (log .entry)) (now (numbers .entry)) (now (key .entry)) (now (value .entry)) .verdict ⌝ }
+    ensures { λ _. ⌜ now (used .exit) ≡ flatRead (now (log .entry)) (now (numbers .entry)) (now (key .entry)) (now (value .entry)) .used ⌝ }
+    ensures { λ _. ⌜ now (numbers .exit) ≡ flatRead (now (log .entry)) (now (numbers .entry)) (now (key .entry)) (now (value .entry)) .numbers ⌝ }
+    ensures { λ _. ⌜ now (key .exit) ≡ flatRead (now (log .entry)) (now (numbers .entry)) (now (key .entry)) (now (value .entry)) .key ⌝ }
+    ensures { λ _. ⌜ now (value .exit) ≡ flatRead (now (log .entry)) (now (numbers .entry)) (now (key .entry)) (now (value .entry)) .value ⌝ }
 {
     match entry::read(log) {
         Reading::Short => {
@@ -122,35 +132,40 @@ pub extern "C" fn thiraduan_read(log: &[u8], used: &mut u64) -> u32
             *used = n as u64;
             verdict::MALFORMED
         }
-        Reading::Good { entry: _, used: n } => {
+        Reading::Good { entry: e, used: n } => {
+            let f = fields::fields_of(e);
+            let k = f.key;
+            let x = f.value;
+            *numbers = fields::numbers_of(f);
+            fields::write_key(k, key);
+            fields::write_value(x, value);
             *used = n as u64;
             verdict::ACCEPTED
         }
     }
 }
 
-// The entry at the start of log, written again to out: 0 and its length to used; 3, 2 or 27 with nothing written and 0.
+// The entry of these fields, written to the front of out: 0 and its length to used, no other byte touched. 2 where they are no entry or it would not be
+// read back, then 27: 0 to used, and out untouched.
 #[no_mangle]
-pub extern "C" fn thiraduan_rewrite(log: &[u8], out: &mut [u8], used: &mut u64) -> u32
-    ensures { λ r. ⌜ r ≡ rewritten (now (log .entry)) (now (out .entry)) .answer .verdict ⌝ }
-    ensures { λ _. ⌜ now (out .exit) ≡ rewritten (now (log .entry)) (now (out .entry)) .bytes ⌝ }
-    ensures { λ _. ⌜ now (used .exit) ≡ rewritten (now (log .entry)) (now (out .entry)) .answer .used ⌝ }
+pub extern "C" fn thiraduan_write(
+    numbers: &[u64; 5],
+    key: &[u8; 34],
+    value: &[u8; 137],
+    out: &mut [u8],
+    used: &mut u64,
+) -> u32
+    ensures { λ r. ⌜ r ≡ flatWrite (now (numbers .entry)) (now (key .entry)) (now (value .entry)) (now (out .entry)) .answer .verdict ⌝ }
+    ensures { λ _. ⌜ now (out .exit) ≡ flatWrite (now (numbers .entry)) (now (key .entry)) (now (value .entry)) (now (out .entry)) .bytes ⌝ }
+    ensures { λ _. ⌜ now (used .exit) ≡ flatWrite (now (numbers .entry)) (now (key .entry)) (now (value .entry)) (now (out .entry)) .answer .used ⌝ }
 {
-    match entry::read(log) {
-        Reading::Short => {
-            *used = 0;
-            verdict::SHORT
-        }
-        Reading::Malformed { used: _ } => {
-            *used = 0;
-            verdict::MALFORMED
-        }
-        Reading::Good { entry: e, used: _ } => {
-            let w = writer::write(e, out);
-            *used = w.used as u64;
-            w.verdict
-        }
-    }
+    let EntryRead::Good(e) = fields::read_fields(numbers, key, value) else {
+        *used = 0;
+        return verdict::MALFORMED;
+    };
+    let w = writer::write(e, out);
+    *used = w.used as u64;
+    w.verdict
 }
 
 // Opening: a fresh state's 129 bytes to state, the root in slot 0 of the cache and zeros behind. With 28 a state of zeros, and the cache untouched.

@@ -6,7 +6,7 @@ ghost use lib.ListN.{length, drop};
 ghost use Rattle.words.specs.Splices.{splice};
 ghost use Rattle.hash.specs.Hashes.{setBytes};
 ghost use Rattle.slot.specs.Slots.{allZero};
-ghost use Rattle.flat.specs.Flats.{stateLength, tagBytes, tallyBytes, oldBytes, frontBytes, stateBytes, tagAt, tallyAt, oldAt, stateAt};
+ghost use Rattle.flat.specs.Flats.{stateLength, tagBytes, tallyBytes, oldBytes, frontBytes, stateBytes, tagAt, tallyAt, oldAt, stateAt, TagFits, TallyFits, OldFits, StateFits};
 use cmac::Tag;
 use hash::SetKey;
 use message::Epoch;
@@ -173,4 +173,38 @@ pub fn read_state(s: &[u8]) -> StateRead
         tally: t,
         old: o,
     })
+}
+
+// ---- every number fits its field. Nothing runs here: each contract says of any state of the code what the laws of the round trip ask of one
+// (specs/Flats.antt)
+
+fn tag_fits(g: Tag)
+    ensures { λ _. ⌜ TagFits g ⌝ }
+{}
+
+fn tally_fits(t: Tally)
+    ensures { λ _. ⌜ TallyFits t ⌝ }
+{
+    let a = t.addsum;
+    let e = t.evictsum;
+    tag_fits(a);
+    tag_fits(e);
+}
+
+fn old_fits(o: Old)
+    ensures { λ _. ⌜ OldFits o ⌝ }
+{
+    match o {
+        Old::Closed => {}
+        Old::Open(t) => tally_fits(t),
+    }
+}
+
+pub fn state_fits(st: State)
+    ensures { λ _. ⌜ StateFits st ⌝ }
+{
+    let t = st.tally;
+    let o = st.old;
+    tally_fits(t);
+    old_fits(o);
 }

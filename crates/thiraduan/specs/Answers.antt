@@ -10,7 +10,7 @@ use Rattle.flat.specs.Flats.{stateAt, stateBytes}
 use Rattle.flat.specs.declared.StateRead.{StateRead}
 use Rattle.flat.specs.declared.StateRead.the-variants as stateRead
 use Rattle.rules.specs.Steps.{Step, step}
-use Rattle.run.specs.Runs.{Run, run}
+use Rattle.rules.specs.Runs.{Run, run}
 use Rattle.writer.specs.Writings.{Writing, unwritten, writeEntry}
 
 -- a yes or no as a byte

@@ -1,5 +1,5 @@
 use Rattle.thiraduan.specs.Answers.{flatRun}
-use Rattle.run.specs.Runs.{Run}
+use Rattle.rules.specs.Runs.{Run}
 use Rattle.flat.specs.Flats.{stateBytes}
 use mathlib.Core.List.{[], _∷_}
 use mathlib.Core.Path.{refl, sym, ap, _∙_}

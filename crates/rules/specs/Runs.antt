@@ -10,8 +10,8 @@ use Rattle.verdict.specs.Verdicts.{accepted, notWell, short, wrongCache}
 use Rattle.cache.specs.Caches.{wellLength}
 use Rattle.state.specs.States.{settled}
 use Rattle.state.specs.declared.State.{State}
 use Rattle.rules.specs.Steps.{Step, wellFormed, step}
-use Rattle.run.specs.declared.Ran.{Ran}
+use Rattle.rules.specs.declared.Ran.{Ran}
 
 -- what a run comes to: what it returns, and every byte of the cache
 pub record Run : Type 0 where

@@ -4,14 +4,14 @@ use mathlib.Core.Bool.{Bool}
 use mathlib.Core.List.{List, [], _∷_, _++_, append-assoc, append-nil}
 use Prim.Native.Nat.{ℕ, zero, suc, _+_, _-_, _*_, _/_, _%_, _^_, _≤_, _<_, zero-le}
 use native.Mathlib.Decide.{ℕ-discrete}
-use native.Mathlib.Nat.{mod-lt, pow-suc, mul-comm, add-zero, zero-add}
+use native.Mathlib.Nat.{mod-lt, pow-suc, mul-comm, add-zero}
 use native.Mathlib.Numerals.{add-one}
 use native.Mathlib.Omega.{arith}
 use borrow.Author.Tests.{eq-eqb, ne-eqb}
 use lib.Arith.{lt-of-le-ne, digits-lt}
 use lib.Bits.{bitXor, bitOr, xor-lt, xor-block, xor-zero-r, xor-comm, or-zero-r, or-shifted-r}
 use lib.Dec.{lit<}
-use lib.ListN.{length, getD, take, drop, length-append, drop-of-length-le, List·getD-append}
+use lib.ListN.{length, getD, take, length-append, drop-of-length-le, List·getD-append}
 use lib.Seq.{getD-at}
 use Rattle.words.proofs.Laws.{bytes-length, number-front, number-at, take-splice, splice-four}
 use Rattle.words.specs.Choice.{pick}

@@ -2,12 +2,11 @@
 // Rounds go by one table that joins SubBytes and MixColumns (tables.rt), and read the bytes of the expanded key as they need them.
 ghost use mathlib.Core.Path.{_≡_};
 ghost use mathlib.Core.List.{[], _∷_};
-ghost use Prim.Native.Nat.{ℕ, _+_, _*_, _/_, _%_, _≤_, _<_};
-ghost use lib.Bits.{bitXor};
-ghost use lib.ListN.{length, take, getD};
+ghost use Prim.Native.Nat.{ℕ, _+_, _≤_, _<_};
+ghost use lib.ListN.{length};
 ghost use Rattle.words.specs.Numbers.{numberAt};
 ghost use Rattle.aes.specs.Field.{sub};
-ghost use Rattle.aes.specs.Aes.{pack, byte0, byte1, byte2, byte3, column, lastColumn, addRoundKey, round, rounds, lastRound, cipher, rotWord, rcon, rotr, push, nextOf, schedule, expansion, keyWords, blockAt, blockBytes, encrypted};
+ghost use Rattle.aes.specs.Aes.{pack, byte0, byte1, byte2, byte3, column, lastColumn, addRoundKey, round, lastRound, cipher, rotWord, rcon, rotr, push, nextOf, expansion, keyWords, blockAt, blockBytes, encrypted};
 
 mod tables;
 
@@ -43,7 +42,7 @@ pub struct Expanded {
 }
 
 // The bytes of a column that ShiftRows takes from four: row 0 from w, row 1 from x, and so on.
-fn rows(w: u32, x: u32, y: u32, z: u32) -> [u8; 4]
+fn rows(w: u32, x: u32, y: u32, z: u32) -> [u8; ROWS]
     ensures { λ r. ⌜ r ≡ byte0 w ∷ byte1 x ∷ byte2 y ∷ byte3 z ∷ [] ⌝ }
 {
     [
@@ -54,7 +53,7 @@ fn rows(w: u32, x: u32, y: u32, z: u32) -> [u8; 4]
     ]
 }
 
-// Inner: n is below 32.
+// v turned n bits to the right. Inner.
 fn turned(v: u32, n: usize) -> u32
     requires { ⌜ n < 32 ⌝ }
     ensures { λ r. ⌜ r ≡ rotr n v ⌝ }
@@ -62,7 +61,7 @@ fn turned(v: u32, n: usize) -> u32
     v >> n | v << (31 - n) << 1
 }
 
-// One column after SubBytes, ShiftRows, MixColumns and AddRoundKey. Two sums, turn about, wait less for each other than one.
+// One column after SubBytes, ShiftRows, MixColumns and AddRoundKey. The terms go to two sums in turn, which are worked side by side.
 fn mixed(w: u32, x: u32, y: u32, z: u32, k: u32) -> u32
     ensures { λ r. ⌜ r ≡ column w x y z k ⌝ }
 {
@@ -112,7 +111,7 @@ fn pushed(s: Block, v: u32) -> Block
     }
 }
 
-// Round i, under the bytes of an expanded key. Inner.
+// Round i, under the bytes of an expanded key: the columns go by in a loop, so that one place looks up the table. Inner.
 fn one_round(k: &[u8; EXPANDED_BYTES], i: usize, s: Block) -> Block
     requires { ⌜ i < 11 ⌝ }
     ensures { λ r. ⌜ r ≡ round (keyWords (now (k .entry))) i s ⌝ }
@@ -152,7 +151,7 @@ fn first_key_added(k: &[u8; EXPANDED_BYTES], s: Block) -> Block
     }
 }
 
-// One block under the bytes of an expanded key. Their words are read as they are needed: a swap of bytes costs less than a copy.
+// One block under the bytes of an expanded key. Its words are read where they are needed: to turn their bytes costs less than a copy.
 pub fn encrypt_block(k: &[u8; EXPANDED_BYTES], s: Block) -> Block
     ensures { λ r. ⌜ r ≡ cipher (keyWords (now (k .entry))) s ⌝ }
 {

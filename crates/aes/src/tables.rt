@@ -1,7 +1,7 @@
-// The two tables of the rounds, each a match: it is compiled to constants that stand in the program, where a constant array
-// at a variable index is laid out on the stack at every call. The arms go by the byte with its highest bit turned, since
-// the compiler counts bytes from -128 on: what turns the bit is gone in the machine code. Each function is called from one
-// place alone, in a loop that is unrolled: so the look-ups stand in the loop and not behind calls.
+// The two tables of the rounds, each a match: it is compiled to constants that stand in the program, while a constant array at
+// a variable index is laid out on the stack at every call. The arms go by the byte with its highest bit turned: the compiler
+// counts the arms of a byte from -128 on, turns that bit once more, and so turns it not at all. Each function is called from
+// one place, in a loop that the compiler unrolls: so the look-ups stand in the loop and not behind calls.
 ghost use mathlib.Core.Path.{_≡_};
 ghost use Prim.Native.Nat.{ℕ};
 ghost use Rattle.aes.specs.Field.{sub};

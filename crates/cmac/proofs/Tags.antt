@@ -1,6 +1,6 @@
 -- Sums of tags: xor of numbers, and so of tags, is an abelian group in which each element is its own inverse; and the test
 -- of two tags decides whether they are equal. Assumes nothing.
-use mathlib.Core.Path.{_≡_, refl, sym, _∙_, ap, ap₂}
+use mathlib.Core.Path.{_≡_, refl, _∙_, ap, ap₂}
 use mathlib.Core.Bool.{true}
 use mathlib.Core.List.{List, _++_}
 use Prim.Native.Nat.{ℕ}

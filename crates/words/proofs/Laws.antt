@@ -3,14 +3,14 @@ use Prim.Native.Nat.{ℕ, zero, suc, _+_, _*_, _-_, _/_, _%_, _^_, _≤_, _<_}
 use mathlib.Core.Path.{_≡_, refl, ap, sym, _∙_}
 use mathlib.Core.List.{List, [], _∷_, _++_, append-assoc, append-nil}
 use mathlib.Core.Bool.{Bool, true, false, false≢true}
-use native.Mathlib.Nat.{mod-eq-of-lt, add-assoc, add-zero, add-suc, one-le-pow, mod-lt, div-one, div-div-eq-div-mul, mul-comm, mul-assoc, pow-suc, add-sub-cancel-left, sub-zero, zero-sub, suc-sub-suc, zero-add, div-add-mod', div-lt-iff-lt-mul}
+use native.Mathlib.Nat.{mod-eq-of-lt, add-assoc, add-zero, add-suc, one-le-pow, mod-lt, div-one, div-div-eq-div-mul, mul-comm, mul-assoc, pow-suc, add-sub-cancel-left, zero-add, div-add-mod', div-lt-iff-lt-mul}
 use native.Mathlib.Numerals.{add-one}
 use native.Mathlib.Decide.{decLt}
 use native.Mathlib.Omega.{arith}
 use lib.Dec.{lit<}
 use lib.Arith.{mod-mul, digits-lt, digits-div, digits-mod}
-use lib.ListN.{length, getD, take, drop, set, replicate, length-append, length-take, length-drop, length-replicate, take-append-drop, List·getD-append, List·getD-eq-default}
-use lib.Seq.{take-append-seam, drop-append-add, drop-drop, set-split, getD-at, getD-append-add, getD-drop, take-suc, take-at, length-take-le, take-add, getD-take}
+use lib.ListN.{length, getD, take, drop, set, length-append, length-take, length-drop, length-replicate, take-append-drop, List·getD-append, List·getD-eq-default}
+use lib.Seq.{take-append-seam, drop-append-add, drop-drop, drop-length, set-split, getD-at, getD-append-add, getD-drop, take-suc, take-at, length-take-le, take-add, getD-take}
 use Rattle.words.specs.Choice.{pick, both}
 use Rattle.words.specs.Numbers.{numberAt, bytesOf, fourWords, zeros, Bytes}
 use Rattle.words.specs.Splices.{splice, part}
@@ -100,6 +100,10 @@ bytes-front a (suc b) x =
 pub bytes-split : (a b x : ℕ) → bytesOf (a + b) x ≡ bytesOf a (x / 256 ^ b) ++ bytesOf b (x % 256 ^ b)
 bytes-split a b x = rw bytes-low (bytes-front a b x)
 
+-- two numbers written side by side are one
+pub bytes-join : (m n a b : ℕ) → b < 256 ^ n → bytesOf m a ++ bytesOf n b ≡ bytesOf (m + n) (a * 256 ^ n + b)
+bytes-join m n a b h = sym (rw (digits-div a h, digits-mod a h) at (bytes-split m n (a * 256 ^ n + b)))
+
 pub zeros-length : (n : ℕ) → length (zeros n) ≡ n
 unfolding zeros
 zeros-length n = length-replicate n 0
@@ -130,6 +134,11 @@ unfolding splice
 take-splice d v at n e h =
     rw (← append-assoc (take at d) v (drop (at + length v) d))
     (take-at (take at d ++ v) (drop (at + length v) d) (at + n) (simp (length-append, length-take) (omega arith)))
+
+-- bytes put in the place of all
+pub splice-all : (d v : List ℕ) → length v ≡ length d → splice d 0 v ≡ v
+unfolding splice
+splice-all d v e = rw (zero-add, e, drop-length) (append-nil v)
 
 -- one store
 pub set-splice : (d : List ℕ) (at x : ℕ) → at < length d → set d at x ≡ splice d at (x ∷ [])

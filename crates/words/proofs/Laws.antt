@@ -10,7 +10,7 @@ use native.Mathlib.Omega.{arith}
 use lib.Dec.{lit<}
 use lib.Arith.{mod-mul, digits-lt, digits-div, digits-mod}
 use lib.ListN.{length, getD, take, drop, set, length-append, length-take, length-drop, length-replicate, take-append-drop, List·getD-append, List·getD-eq-default}
-use lib.Seq.{take-append-seam, drop-append-add, drop-drop, drop-length, set-split, getD-at, getD-append-add, getD-drop, take-suc, take-at, length-take-le, take-add, getD-take}
+use lib.Seq.{take-append-seam, drop-append-add, drop-drop, drop-length, set-split, getD-at, getD-append-add, getD-drop, take-suc, take-at, take-all, length-take-le, take-add, getD-take}
 use Rattle.words.specs.Choice.{pick, both}
 use Rattle.words.specs.Numbers.{numberAt, bytesOf, fourWords, zeros, Bytes}
 use Rattle.words.specs.Splices.{splice, part}
@@ -221,6 +221,10 @@ number-at n x at p r e h =
 -- two parts side by side make one
 pub part-join : (s : List ℕ) (at m to n : ℕ) → at + m ≡ to → part s at m ++ part s to n ≡ part s at (m + n)
 part-join s at m to n e = rw (← e, take-add m n (drop at s), drop-drop)
+
+-- the part from a place on is all that is left there
+pub part-rest : (s : List ℕ) (at : ℕ) → part s at (length s - at) ≡ drop at s
+part-rest s at = take-all (length s - at) (drop at s) (simp length-drop (omega arith))
 
 -- ---- four words side by side
 

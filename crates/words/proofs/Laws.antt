@@ -174,12 +174,12 @@ pub put-join : (a b : ℕ) (d m r : List ℕ) (at x : ℕ) → m ≡ splice d at
 put-join a b d m r at x p q h =
     rw bytes-split (splice-step d m r at a (bytesOf a (x / 256 ^ b)) (bytesOf b (x % 256 ^ b)) p q (bytes-length a (x / 256 ^ b)) (omega arith))
 
--- ---- a copy, byte by byte
-
-pub copy-none : (d s : List ℕ) (at : ℕ) → d ≡ splice d at (take 0 s)
+-- no bytes in the place of others
+pub splice-none : (d : List ℕ) (at : ℕ) → d ≡ splice d at []
 unfolding splice
-copy-none d s at = rw add-zero (sym (take-append-drop at d))
+splice-none d at = rw add-zero (sym (take-append-drop at d))
 
+-- a copy, with one byte more
 pub copy-more : (d s : List ℕ) (at i : ℕ) → i < length s → at + length s ≤ length d → set (splice d at (take i s)) (at + i) (getD s i 0) ≡ splice d at (take (i + 1) s)
 copy-more d s at i h f =
     let n : length (take i s) ≡ i = length-take-le i s (omega arith) in
@@ -302,10 +302,14 @@ unfolding bytesOf
 number-bytes zero x = no-bytes
 number-bytes (suc n) x = append-bytes (bytesOf n (x / 256)) (x % 256 ∷ []) (number-bytes n (x / 256)) (one-byte (x % 256) (mod-lt x (lit< tt)))
 
--- a part of bytes is bytes
+-- what is left of bytes is bytes
+pub drop-bytes : (s : List ℕ) (at : ℕ) → Bytes s → Bytes (drop at s)
+drop-bytes s at b i = rw getD-drop (b (at + i))
+
+-- and so is a part
 pub part-bytes : (s : List ℕ) (at n : ℕ) → Bytes s → Bytes (part s at n)
 part-bytes s at n b i = elim (decLt i n) [
-  | yes h ↦ rw (getD-take n (drop at s) i 0 h, getD-drop at s i 0) (b (at + i))
+  | yes h ↦ rw (getD-take n (drop at s) i 0 h) (drop-bytes s at b i)
   | no h ↦ rw (List·getD-eq-default (part s at n) 0 {n = i} (rw (length-take n (drop at s)) (omega arith))) (lit< tt)
 ]
 

@@ -7,10 +7,10 @@ use native.Mathlib.Decide.{decLt}
 use native.Mathlib.Nat.{div-mul-le-self, mul-div-cancel}
 use lib.Dec.{lit<}
 use lib.ListN.{length, take, drop, length-append, length-drop, take-append-drop}
-use lib.Seq.{getD-drop, take-at, drop-at, take-append-le, drop-append-le, drop-append-add, drop-drop, length-take-le}
+use lib.Seq.{take-at, drop-at, take-append-le, drop-append-le, drop-append-add, drop-drop, length-take-le}
 use Rattle.words.specs.Numbers.{zeros, Bytes}
 use Rattle.words.specs.Splices.{part, splice}
-use Rattle.words.proofs.Laws.{splice-length, zeros-length, append-bytes, part-bytes}
+use Rattle.words.proofs.Laws.{splice-length, zeros-length, append-bytes, drop-bytes, part-bytes}
 use Rattle.key.specs.declared.Key.{Key}
 use Rattle.value.specs.declared.Value.{Value}
 use Rattle.slot.specs.Slots.{slotLength, slotAt, slotBytes}
@@ -65,7 +65,7 @@ pub splice-bytes : (d v : List ℕ) (at : ℕ) → Bytes d → Bytes v → Bytes
 unfolding splice
 splice-bytes d v at p q =
     append-bytes (take at d) (v ++ drop (at + length v) d) (part-bytes d 0 at p)
-    (append-bytes v (drop (at + length v) d) q (λ i. rw (getD-drop (at + length v) d i 0) (p (at + length v + i))))
+    (append-bytes v (drop (at + length v) d) q (drop-bytes d (at + length v) p))
 
 -- ---- slots
 

@@ -4,7 +4,7 @@ use mathlib.Core.List.{List, _++_}
 use mathlib.Core.Bool.{Bool, true, false}
 use lib.ListN.{length, take, drop}
 use lib.Dec.{leb, ltb, eqb}
-use Rattle.words.specs.Choice.{pick, both, no}
+use Rattle.words.specs.Choice.{pick, both}
 use Rattle.words.specs.Numbers.{zeros}
 use Rattle.words.specs.Splices.{part, splice}
 use Rattle.key.specs.Keys.{keyEq, rootKey}

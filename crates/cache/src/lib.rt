@@ -1,7 +1,7 @@
 // The cache as slots: whether its length and its slots are as said, whether a key is held, and each slot as its own part.
 // Promises upward: 28 and the cache's part of 1 are decided, and a change of one slot is a splice of its 192 bytes.
 ghost use mathlib.Core.Path.{_≡_};
-ghost use Prim.Native.Nat.{ℕ, _+_, _*_, _/_, _≤_, _<_};
+ghost use Prim.Native.Nat.{_+_, _*_, _/_, _≤_, _<_};
 ghost use lib.ListN.{length};
 ghost use Rattle.slot.specs.Slots.{slotLength, slotAt};
 ghost use Rattle.cache.specs.Caches.{wellLength, slotHas, held, wellRecord, wellAt, wellCache};

@@ -2,7 +2,7 @@
 use Prim.Native.Nat.{ℕ}
 use mathlib.Core.Path.{_≡_, refl}
 use mathlib.Core.List.{List, [], _∷_, _++_}
-use lib.ListN.{length, getD, take, drop, replicate}
+use lib.ListN.{replicate}
 use Rattle.words.specs.Numbers.{numberAt}
 use Rattle.key.specs.Keys.{dataAt, dataKey, rawKey, keyAt, wellKey, clean, rootKey}
 use Rattle.value.specs.Values.{valueAt, nodeAt, sideAt, bareNode}

@@ -1,15 +1,15 @@
 -- How many bytes the reader uses, and that it looks at no others. Assumes nothing.
-use Prim.Native.Nat.{ℕ, _+_, _-_, _≤_, _<_}
+use Prim.Native.Nat.{ℕ, _+_, _-_, _≤_}
 use mathlib.Core.Path.{_≡_, refl, ap, sym, _∙_}
-use mathlib.Core.List.{List, [], _∷_, _++_}
+use mathlib.Core.List.{List, [], _++_}
 use native.Mathlib.Omega.{arith}
-use lib.Dec.{lit≤, ltb}
+use lib.Dec.{ltb}
 use lib.ListN.{getD, length, take, drop, length-append, length-take, length-drop, take-append-drop, List·getD-append}
-use lib.Seq.{take-all, take-append-le, drop-append-le, getD-take}
+use lib.Seq.{take-append-le, drop-append-le, getD-take}
 use borrow.Author.Tests.{lt-ltb, le-ltb, ltb-false}
 use Rattle.words.specs.Numbers.{numberAt}
 use Rattle.words.specs.Splices.{part}
-use Rattle.words.proofs.Laws.{number-front, picked, never}
+use Rattle.words.proofs.Laws.{number-front, part-rest, picked, never}
 use Rattle.entry.specs.Entries.{entryOf, headOf, headEnd, readBy, readingOf, readEntry, readAt, readingUsed}
 use Rattle.entry.specs.declared.EntryRead.{EntryRead}
 use Rattle.entry.specs.declared.EntryRead.the-variants.{Good, Bad}
@@ -27,7 +27,7 @@ read-past log at h = simp (lt-ltb (length (drop at log)) 3 (simp length-drop (om
 
 -- the part of a log from a place on is all that is left there
 pub read-rest : (log : List ℕ) (at : ℕ) (r : Reading) → r ≡ readEntry (take (length log - at) (drop at log)) → r ≡ readAt log at
-read-rest log at r e = e ∙ ap readEntry (take-all (length log - at) (drop at log) (simp length-drop (omega arith)))
+read-rest log at r e = e ∙ ap readEntry (part-rest log at)
 
 -- ---- the head
 

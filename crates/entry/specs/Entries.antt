@@ -1,7 +1,7 @@
 -- An entry is a tag byte, a two-byte body length and the body (document 01, "The ten entries").
 use Prim.Native.Nat.{ℕ, _+_, _-_}
 use mathlib.Core.List.{List, [], _∷_, _++_}
-use mathlib.Core.Bool.{Bool, true, false}
+use mathlib.Core.Bool.{Bool, true}
 use lib.ListN.{length, getD, drop}
 use lib.Dec.{ltb, eqb}
 use Rattle.words.specs.Choice.{pick, both}

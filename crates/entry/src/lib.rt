@@ -1,7 +1,7 @@
 // The ten entries: their forms, and a reader over a lent log.
 // Promises upward: 3 or 2 or the entry with its whole length, and the body as a part of the log itself.
 ghost use mathlib.Core.Path.{_≡_};
-ghost use Prim.Native.Nat.{ℕ, _+_, _≤_, _<_};
+ghost use Prim.Native.Nat.{_+_, _≤_, _<_};
 ghost use lib.ListN.{length};
 ghost use Rattle.words.specs.Choice.{pick};
 ghost use Rattle.words.specs.Numbers.{numberAt};
@@ -43,8 +43,8 @@ pub const ADVANCE_TAG: u8 = 9;
 
 pub const CLOSE_TAG: u8 = 10;
 
-// A slot takes two bytes, and where there are two, the second stands behind the first.
-pub const SLOT_BYTES: usize = 2;
+// A slot's number takes two bytes, and where there are two, the second stands behind the first.
+pub const ONE_SLOT: usize = 2;
 
 pub const TWO_SLOTS: usize = 4;
 
@@ -153,7 +153,7 @@ fn read_add_tree(b: &[u8]) -> EntryRead
     };
     if ADD_TREE_VALUE + used == b.len() {
         let s = slot_at(b, 0);
-        let p = slot_at(b, SLOT_BYTES);
+        let p = slot_at(b, ONE_SLOT);
         return EntryRead::Good(Entry::AddTree { s, p, key, value });
     }
     EntryRead::Bad
@@ -193,7 +193,7 @@ fn read_pair(b: &[u8], deferred: bool) -> EntryRead
 {
     if b.len() == TWO_SLOTS {
         let s = slot_at(b, 0);
-        let p = slot_at(b, SLOT_BYTES);
+        let p = slot_at(b, ONE_SLOT);
         if deferred {
             return EntryRead::Good(Entry::EvictTreeDeferred { s, p });
         }
@@ -206,7 +206,7 @@ fn read_pair(b: &[u8], deferred: bool) -> EntryRead
 fn read_evict_deferred(b: &[u8]) -> EntryRead
     ensures { λ r. ⌜ r ≡ evictDeferredAt (now (b .entry)) ⌝ }
 {
-    if b.len() == SLOT_BYTES {
+    if b.len() == ONE_SLOT {
         let s = slot_at(b, 0);
         return EntryRead::Good(Entry::EvictDeferred { s });
     }

@@ -4,12 +4,12 @@ use mathlib.Core.Path.{_≡_, refl, ap, sym, _∙_}
 use mathlib.Core.List.{List, [], _++_, append-assoc, append-nil}
 use native.Mathlib.Omega.{arith}
 use native.Mathlib.Nat.{zero-add}
-use lib.Arith.{digits-lt, digits-div, digits-mod}
+use lib.Arith.{digits-lt}
 use lib.ListN.{length, take, length-append}
-use lib.Seq.{drop-length, take-length}
+use lib.Seq.{take-length}
 use Rattle.words.specs.Numbers.{numberAt, bytesOf, Bytes}
 use Rattle.words.specs.Splices.{splice}
-use Rattle.words.proofs.Laws.{bytes-length, bytes-back, bytes-split, number-at, part-join, splice-length, splice-step, take-splice}
+use Rattle.words.proofs.Laws.{bytes-length, bytes-back, bytes-join, number-at, part-join, splice-all, splice-length, splice-step, take-splice}
 use Rattle.sha256.specs.Sha256.{sha256, hashOf, hashBytes}
 use Rattle.sha256.specs.declared.Hash.{Hash}
 use Rattle.value.specs.Values.{digestAt, digestBytes, valueBytes, DigestFits}
@@ -22,10 +22,6 @@ use Rattle.hash.specs.Hashes.{digestOf, setBytes, setKey}
 use Rattle.hash.specs.declared.SetKey.{SetKey}
 
 -- ---- a hash value as a digest
-
--- two numbers written side by side are one
-pub bytes-join : (m n a b : ℕ) → b < 256 ^ n → bytesOf m a ++ bytesOf n b ≡ bytesOf (m + n) (a * 256 ^ n + b)
-bytes-join m n a b h = sym (rw (digits-div a h, digits-mod a h) at (bytes-split m n (a * 256 ^ n + b)))
 
 -- what is known of two words of 32 bits made one of 64
 abbrev Joined : ℕ → ℕ → ℕ → Type 0
@@ -85,10 +81,6 @@ module _ (d v b : List ℕ) (n : ℕ) (e : b ≡ splice d 0 v) (f : n ≡ length
   written-length = f ∙ ap length (sym written-front)
 
 -- ---- the set key
-
-splice-all : (d v : List ℕ) → length v ≡ length d → splice d 0 v ≡ v
-unfolding splice
-splice-all d v e = rw (zero-add, e, drop-length) (append-nil v)
 
 pub set-written : (k : SetKey) (d m r : List ℕ) → length d ≡ 16 → m ≡ splice d 0 (bytesOf 8 (k .k0)) → r ≡ splice m 8 (bytesOf 8 (k .k1)) → r ≡ setBytes k
 unfolding setBytes

@@ -1,7 +1,6 @@
 // The digest of a value and the tag of a message, each worked from bytes in a buffer of its own.
 // Promises upward: they are the standards' over the forms' bytes, and nothing above looks inside.
 ghost use mathlib.Core.Path.{_≡_};
-ghost use Prim.Native.Nat.{ℕ, _+_, _*_, _^_, _<_};
 ghost use Rattle.sha256.specs.Sha256.{hashBytes};
 ghost use Rattle.aes.specs.Aes.{expansion};
 ghost use Rattle.cmac.specs.Cmac.{cmac};
@@ -14,6 +13,7 @@ use message::Message;
 use sha256::Hash;
 use value::Digest;
 use value::Value;
+use words::joined;
 use words::put_word;
 use words::word_at;
 
@@ -27,15 +27,6 @@ pub const SET_KEY_BYTES: usize = 16;
 
 // Where the set key's second word stands in its bytes.
 const SECOND_WORD: usize = 8;
-
-// How many values a word of 32 bits has.
-const WORD_VALUES: u64 = 4294967296;
-
-fn joined(high: u32, low: u32) -> u64
-    ensures { λ r. ⌜ (r ≡ high * 2 ^ 32 + low) × (high < 2 ^ 32) × (low < 2 ^ 32) ⌝ }
-{
-    (high as u64) * WORD_VALUES + (low as u64)
-}
 
 // A hash value as a digest: eight words are four, and no byte is written.
 fn digest_words(s: Hash) -> Digest

@@ -57,13 +57,8 @@ keyAt-bad s at k e w = rw (← e, ← w)
 
 -- ---- a key is its parts
 
--- `cc` joins the parts of records that are written out, and a key is its own parts' record
-key-parts : (l m a b c d e f g h : ℕ) → l ≡ m → a ≡ b → c ≡ d → e ≡ f → g ≡ h
-    → _≡_ {A = Key} (record { len = l; w0 = a; w1 = c; w2 = e; w3 = g }) (record { len = m; w0 = b; w1 = d; w2 = f; w3 = h })
-key-parts l m a b c d e f g h p q r s t = cc
-
 pub key-ext : (a b : Key) → a .len ≡ b .len → a .w0 ≡ b .w0 → a .w1 ≡ b .w1 → a .w2 ≡ b .w2 → a .w3 ≡ b .w3 → a ≡ b
-key-ext a b p q r s t = key-parts (a .len) (b .len) (a .w0) (b .w0) (a .w1) (b .w1) (a .w2) (b .w2) (a .w3) (b .w3) p q r s t
+key-ext a b p q r s t = λ i. record { len = p i; w0 = q i; w1 = r i; w2 = s i; w3 = t i }
 
 -- a data key is its words
 pub data-ext : (k : Key) → isData k ≡ true → dataKey (k .w0) (k .w1) (k .w2) (k .w3) ≡ k

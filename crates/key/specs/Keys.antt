@@ -5,7 +5,7 @@ use mathlib.Core.List.{List, _++_}
 use mathlib.Core.Bool.{Bool}
 use lib.Dec.{ltb, leb, eqb}
 use Rattle.words.specs.Choice.{pick, both}
-use Rattle.words.specs.Numbers.{numberAt, bytesOf}
+use Rattle.words.specs.Numbers.{numberAt, bytesOf, fourWords}
 use Rattle.key.specs.declared.Key.{Key}
 use Rattle.key.specs.declared.KeyRead.{KeyRead}
 use Rattle.key.specs.declared.KeyRead.the-variants.{Good, Bad}
@@ -45,7 +45,7 @@ pub record KeyFits (k : Key) : Type 0 where
   pub w3 : k .w3 < 2 ^ 64
 
 unfoldable pub keyBytes : Key → List ℕ
-keyBytes k = bytesOf 2 (k .len) ++ (bytesOf 8 (k .w0) ++ (bytesOf 8 (k .w1) ++ (bytesOf 8 (k .w2) ++ bytesOf 8 (k .w3))))
+keyBytes k = bytesOf 2 (k .len) ++ fourWords (k .w0) (k .w1) (k .w2) (k .w3)
 
 -- what 34 bytes say, well formed or not
 unfoldable pub rawKey : List ℕ → ℕ → Key
@@ -66,7 +66,7 @@ unfoldable pub dataAt : List ℕ → ℕ → Key
 dataAt s at = dataKey (numberAt 8 s at) (numberAt 8 s (at + 8)) (numberAt 8 s (at + 16)) (numberAt 8 s (at + 24))
 
 unfoldable pub dataBytes : Key → List ℕ
-dataBytes k = bytesOf 8 (k .w0) ++ (bytesOf 8 (k .w1) ++ (bytesOf 8 (k .w2) ++ bytesOf 8 (k .w3)))
+dataBytes k = fourWords (k .w0) (k .w1) (k .w2) (k .w3)
 
 unfoldable pub keyEq : Key → Key → Bool
 keyEq a b =

@@ -8,14 +8,13 @@ ghost use Rattle.key.specs.Keys.{keyAt, keyBytes, dataAt, dataBytes, key
 use words::Four;
 use words::and;
 use words::four_at;
+use words::less;
 use words::pair_at;
 use words::put_four;
 use words::put_pair;
 
-// A key's bytes with its length, and a data key's without.
+// A key's bytes, its length among them.
 pub const KEY_BYTES: usize = 34;
-
-pub const DATA_BYTES: usize = 32;
 
 // A key's length stands before its bits.
 const LENGTH_BYTES: usize = 2;
@@ -40,13 +39,6 @@ pub struct Key {
 pub enum KeyRead {
     Good(Key),
     Bad,
-}
-
-// a less b, or 0.
-fn less(a: u64, b: u64) -> u64
-    ensures { λ r. ⌜ r ≡ a - b ⌝ }
-{
-    if a < b { 0 } else { a - b }
 }
 
 // The low n bits of a word. Inner.

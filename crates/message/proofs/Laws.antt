@@ -1,18 +1,15 @@
 -- A message's bytes: at most 187, and they determine epoch, time, key and value. Assumes nothing.
-use Prim.Native.Nat.{ℕ, _+_, _≤_, _<_, _^_}
+use Prim.Native.Nat.{ℕ, _+_, _≤_}
 use mathlib.Core.Path.{_≡_, refl, ap, sym, _∙_}
-use mathlib.Core.List.{List, [], _∷_, _++_, append-assoc}
-use mathlib.Core.Bool.{true}
+use mathlib.Core.List.{List, [], _++_, append-assoc}
 use native.Mathlib.Omega.{arith}
 use lib.ListN.{length, length-append}
 use Rattle.words.specs.Numbers.{numberAt, bytesOf}
 use Rattle.words.proofs.Laws.{bytes-length, number-at}
-use Rattle.key.specs.Keys.{keyAt, keyBytes, wellKey, KeyFits}
-use Rattle.key.specs.declared.Key.{Key}
+use Rattle.key.specs.Keys.{keyAt, keyBytes}
 use Rattle.key.specs.declared.KeyRead.the-variants as kr
 use Rattle.key.proofs.Laws.{key-back, key-length}
-use Rattle.value.specs.Values.{valueAt, valueBytes, wellValue, ValueFits}
-use Rattle.value.specs.declared.Value.{Value}
+use Rattle.value.specs.Values.{valueAt, valueBytes}
 use Rattle.value.specs.declared.ValueRead.the-variants as vr
 use Rattle.value.proofs.Laws.{value-length}
 use Rattle.value.proofs.Back.{value-back}

@@ -1,7 +1,7 @@
 // Epochs, times and the deferred message with its bytes, 51 to 187 of them.
 // Promises upward: the bytes determine epoch, time, key and value.
 ghost use mathlib.Core.Path.{_≡_};
-ghost use Prim.Native.Nat.{ℕ, _+_, _≤_};
+ghost use Prim.Native.Nat.{_+_, _≤_};
 ghost use lib.ListN.{length};
 ghost use Rattle.words.specs.Splices.{splice};
 ghost use Rattle.message.specs.Messages.{messageBytes};

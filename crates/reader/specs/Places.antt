@@ -1,5 +1,5 @@
 -- What stands at a place of a log, and where the next entry begins. The reader's own form keeps the log and the place together.
-use Prim.Native.Nat.{ℕ, _+_, _*_}
+use Prim.Native.Nat.{ℕ, _+_}
 use mathlib.Core.List.{List}
 use lib.ListN.{drop}
 use denote.Ref.{RefT}

@@ -1,7 +1,7 @@
 -- A slot (document 01, "The trusted state"): origin (0 free, 1 tree, 2 deferred), key (34), value, zeros. A free slot is all zero.
 use Prim.Native.Nat.{ℕ, _+_, _-_}
 use mathlib.Core.List.{List, [], _∷_, _++_}
-use mathlib.Core.Bool.{Bool, true, false}
+use mathlib.Core.Bool.{Bool, true}
 use lib.ListN.{length, getD, drop}
 use lib.Dec.{ltb, eqb}
 use Rattle.words.specs.Choice.{pick, both}

@@ -1,7 +1,7 @@
 // A slot of the cache: 192 bytes, read, and written as a lent part of the cache.
 // Promises upward: a slot that is written is read back, and no byte outside the slot is touched.
 ghost use mathlib.Core.Path.{_≡_};
-ghost use Prim.Native.Nat.{ℕ, _+_, _*_, _-_, _≤_, _<_};
+ghost use Prim.Native.Nat.{_+_, _*_, _-_, _≤_, _<_};
 ghost use lib.ListN.{length, drop};
 ghost use Rattle.words.specs.Numbers.{zeros};
 ghost use Rattle.words.specs.Splices.{splice, part};

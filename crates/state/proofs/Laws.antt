@@ -1,5 +1,5 @@
 -- What it says that a state is well formed, which changes keep it so, and what opening comes to. Assumes nothing.
-use Prim.Native.Nat.{ℕ, _+_, _*_, _-_, _/_, _≤_, _<_}
+use Prim.Native.Nat.{ℕ, _+_, _*_, _-_, _≤_, _<_}
 use Rattle.verdict.specs.Verdicts.{accepted, wrongCache}
 use mathlib.Core.Path.{refl, _≡_, ap, sym, _∙_}
 use mathlib.Core.List.{List}
@@ -136,7 +136,7 @@ open-room c d w e = let l = length-slots c (sym w) in omega (arith, ap length e 
 module _ (key c : List ℕ) where
   abbrev chosen : Bool → Opening
   chosen b =
-      pick b (opening (record { verdict = accepted; state = freshState key }) (openedCache (length c / slotLength - 1)))
+      pick b (opening (record { verdict = accepted; state = freshState key }) (openedCache (count c - 1)))
       (opening (record { verdict = wrongCache; state = zeroState }) c)
 
   open-taken : wellLength c ≡ true → openDef key c ≡ chosen true

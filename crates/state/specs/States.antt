@@ -1,22 +1,17 @@
 -- The trusted state (document 01, "The trusted state"): its part of 1, its changes, and opening.
-use Prim.Native.Nat.{ℕ, _+_, _*_, _-_, _/_}
+use Prim.Native.Nat.{ℕ, _+_, _*_, _-_}
 use mathlib.Core.List.{List}
-use mathlib.Core.Bool.{Bool, true, false}
-use lib.ListN.{length}
+use mathlib.Core.Bool.{Bool, true}
 use lib.Dec.{leb, eqb}
 use Rattle.words.specs.Choice.{pick, both, no}
 use Rattle.verdict.specs.Verdicts.{accepted, wrongCache}
 use Rattle.cmac.specs.Tags.{tagXor, noTag}
 use Rattle.cmac.specs.declared.Tag.{Tag}
-use Rattle.message.specs.declared.Epoch.{Epoch}
-use Rattle.message.specs.declared.Time.{Time}
 use Rattle.message.specs.declared.Message.{Message}
 use Rattle.key.specs.declared.Key.{Key}
 use Rattle.value.specs.declared.Value.{Value}
 use Rattle.hash.specs.Hashes.{setKey, tagOf}
-use Rattle.hash.specs.declared.SetKey.{SetKey}
-use Rattle.slot.specs.Slots.{slotLength}
-use Rattle.cache.specs.Caches.{wellLength, openedCache}
+use Rattle.cache.specs.Caches.{wellLength, count, openedCache}
 use Rattle.state.specs.declared.Tally.{Tally}
 use Rattle.state.specs.declared.Old.{Old}
 use Rattle.state.specs.declared.Old.the-variants.{Closed, Open}
@@ -117,7 +112,7 @@ opening a c = record { answer = a; bytes = c }
 unfoldable pub openDef : List ℕ → List ℕ → Opening
 openDef key c =
     pick (wellLength c)
-    (opening (record { verdict = accepted; state = freshState key }) (openedCache (length c / slotLength - 1)))
+    (opening (record { verdict = accepted; state = freshState key }) (openedCache (count c - 1)))
     (opening (record { verdict = wrongCache; state = zeroState }) c)
 
 -- ---- the last epoch settled: current less 1, or less 2 with an old epoch open

@@ -1,11 +1,8 @@
 // The trusted state and its changes, its part of well-formedness, and opening.
 // Promises upward: each change is the definition's, and an opened state with its cache is well formed.
 ghost use mathlib.Core.Path.{_≡_};
-ghost use Prim.Native.Nat.{ℕ, _+_, _*_, _-_, _≤_, _<_};
+ghost use Prim.Native.Nat.{_+_, _*_, _-_, _≤_, _<_};
 ghost use lib.Dec.{leb};
-ghost use Rattle.cmac.specs.Tags.{noTag};
-ghost use Rattle.value.specs.Values.{bareNode};
-ghost use Rattle.value.specs.declared.Value.the-variants as v;
 ghost use Rattle.state.specs.States.{epochLimit, countLimit, clockLimit, wellTally, wellOld, wellState, noTally, tallyAdd, tallyEvict, addedCurrent, addedOld, evictedState, evictMessage, advancedState, closedState, freshState, zeroState, opening, openDef, settled};
 use cmac::Tag;
 use hash::SetKey;
@@ -13,10 +10,9 @@ use key::Key;
 use message::Epoch;
 use message::Message;
 use message::Time;
-use value::Node;
-use value::Side;
 use value::Value;
 use words::and;
+use words::less;
 use words::not;
 
 // The most that an epoch may be, and that a count may be.
@@ -54,13 +50,6 @@ pub struct State {
 pub struct Opened {
     pub verdict: u32,
     pub state: State,
-}
-
-// a less b, or 0.
-fn less(a: u64, b: u64) -> u64
-    ensures { λ r. ⌜ r ≡ a - b ⌝ }
-{
-    if a < b { 0 } else { a - b }
 }
 
 fn no_tally() -> Tally
@@ -274,23 +263,14 @@ impl State {
     }
 }
 
-// The root's first value: both sides empty.
-fn root_value() -> Value
-    ensures { λ r. ⌜ r ≡ v.Node bareNode ⌝ }
-{
-    Value::Node(Node {
-        left: Side::Empty,
-        right: Side::Empty,
-    })
-}
-
 // A fresh state, with the root in slot 0 of the lent cache and zeros behind; or 28, and the cache untouched.
 pub fn open(key: &[u8; hash::SET_KEY_BYTES], cache: &mut [u8]) -> Opened
     ensures { λ r. ⌜ opening r (now (cache .exit)) ≡ openDef (now (key .entry)) (now (cache .entry)) ⌝ }
 {
     if cache::well_length(cache) {
         slot::clear(cache);
-        slot::set_slot(cache, 0, slot::ORIGIN_TREE, Key::root(), root_value());
+        let root = Value::Node(tree::bare_node());
+        slot::set_slot(cache, 0, slot::ORIGIN_TREE, Key::root(), root);
         return Opened {
             verdict: verdict::ACCEPTED,
             state: State::fresh(key),

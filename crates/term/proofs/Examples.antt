@@ -1,10 +1,8 @@
 -- The bounds of codes and terms, worked. Assumes nothing.
-use Prim.Native.Nat.{ℕ}
 use mathlib.Core.Path.{_≡_, refl}
-use mathlib.Core.List.{List, [], _∷_}
-use mathlib.Core.Bool.{Bool, true, false}
+use mathlib.Core.List.{[], _∷_}
+use mathlib.Core.Bool.{true, false}
 use lib.ListN.{replicate}
-use Rattle.words.specs.Choice.{pick}
 use Rattle.term.specs.Terms.{letters, wellCode, wellTerm}
 
 -- `az` is a code; what stands just outside a to z is in none, nor are one byte or nine

@@ -2,7 +2,7 @@
 // Promises upward: the key is the SHA-256 of what `hashed` says, and the answer yes is the equality of digest and fingerprint.
 ghost use mathlib.Core.Path.{_≡_};
 ghost use Prim.Native.Nat.{_+_, _≤_};
-ghost use lib.ListN.{length, drop, take};
+ghost use lib.ListN.{length};
 ghost use lib.Dec.{leb};
 ghost use Rattle.words.specs.Choice.{both};
 ghost use Rattle.sha256.specs.Sha256.{sha256};

@@ -1,18 +1,18 @@
 -- Laws of digits, of how long a line can be, and of texts stored one behind another. Assumes nothing.
-use Prim.Native.Nat.{ℕ, zero, suc, _+_, _*_, _-_, _/_, _%_, _^_, _≤_, _<_}
+use Prim.Native.Nat.{ℕ, zero, suc, _+_, _-_, _/_, _%_, _^_, _≤_, _<_}
 use mathlib.Core.Path.{_≡_, refl, ap, sym, _∙_}
 use mathlib.Core.List.{List, [], _∷_, _++_}
 use mathlib.Core.Bool.{Bool, true, false}
 use native.Mathlib.Nat.{pow-suc}
 use native.Mathlib.Omega.{arith}
-use lib.ListN.{length, take, drop, set, length-append, length-drop}
-use lib.Seq.{take-all, drop-cons, lt-length-set, getD-set-same, drop-set-lt, drop-length}
+use lib.ListN.{length, take, drop, set, length-append}
+use lib.Seq.{drop-cons, lt-length-set, getD-set-same, drop-set-lt, drop-length}
 use lib.Dec.{ltb}
 use borrow.Author.Tests.{lt-ltb, le-ltb, ltb-false}
 use Rattle.words.specs.Choice.{pick}
-use Rattle.words.specs.Splices.{splice}
-use Rattle.words.proofs.Laws.{splice-length, splice-join}
-use Rattle.text.specs.Text.{space, lineFeed, digitsBefore, decimal, field, lineText, settledText, bytesText, endText}
+use Rattle.words.specs.Splices.{splice, part}
+use Rattle.words.proofs.Laws.{splice-length, splice-join, part-rest}
+use Rattle.text.specs.Text.{space, lineFeed, digitsBefore, decimal, field, lineText, endText}
 
 -- ---- one text behind another
 
@@ -73,7 +73,7 @@ decimal-starts d n e = ap (digitsBefore 20 n) (ap (λ (k : ℕ). drop k d) (sym 
 
 -- what stands at the end of a whole part
 pub tail-is : (d t : List ℕ) (s : ℕ) → length d ≡ 20 → drop s d ≡ t → take (20 - s) (drop s d) ≡ t
-tail-is d t s e f = take-all (20 - s) (drop s d) (simp length-drop (omega arith)) ∙ f
+tail-is d t s e f = ap (λ (n : ℕ). part d s (n - s)) (sym e) ∙ part-rest d s ∙ f
 
 -- ---- how long numbers and lines are
 

@@ -21,7 +21,6 @@ use Rattle.value.specs.declared.SideRead.{SideRead}
 use Rattle.value.specs.declared.SideRead.the-variants as sr
 use Rattle.value.specs.declared.Value.{Value}
 use Rattle.value.specs.declared.Value.the-variants as v
-use Rattle.value.specs.declared.ValueRead.{ValueRead}
 use Rattle.value.specs.declared.ValueRead.the-variants as vr
 use Rattle.value.proofs.Laws.{digest-length, link-length, fingerprint-length, node-length}
 

@@ -7,7 +7,7 @@ use lib.ListN.{length, replicate}
 use Rattle.words.specs.Numbers.{numberAt, bytesOf}
 use Rattle.key.specs.Keys.{keyAt, rawKey, wellKey, clean, keyBytes}
 use Rattle.key.specs.declared.Key.{Key}
-use Rattle.value.specs.Values.{digestAt, digestBytes, linkAt, linkBytes, sideAt, sideBytes, nodeAt, nodeBytes, fingerprintAt, fingerprintBytes, valueAt, valueBytes}
+use Rattle.value.specs.Values.{digestAt, digestBytes, linkAt, linkBytes, sideAt, sideBytes, nodeAt, nodeBytes, fingerprintBytes, valueAt, valueBytes}
 use Rattle.value.specs.declared.Digest.{Digest}
 use Rattle.value.specs.declared.Side.{Side}
 use Rattle.value.specs.declared.Side.the-variants.{Empty, Link}

@@ -5,7 +5,7 @@ use mathlib.Core.Bool.{Bool}
 use native.Mathlib.Omega.{arith}
 use lib.Dec.{lit≤}
 use lib.ListN.{length, length-append}
-use Rattle.words.proofs.Laws.{bytes-length}
+use Rattle.words.proofs.Laws.{four-length}
 use Rattle.key.proofs.Laws.{key-length}
 use Rattle.key.specs.declared.Key.{Key}
 use Rattle.value.specs.Values.{digestBytes, linkBytes, sideBytes, fingerprintBytes, nodeBytes, valueBytes}
@@ -17,7 +17,7 @@ use Rattle.value.specs.declared.Value.the-variants as v
 
 pub digest-length : (d : Digest) → length (digestBytes d) ≡ 32
 unfolding digestBytes
-digest-length d = simp (length-append, bytes-length)
+digest-length d = four-length (d .d0) (d .d1) (d .d2) (d .d3)
 
 pub link-length : (k : Key) (d : Digest) (m : Bool) → length (linkBytes k d m) ≡ 68
 unfolding linkBytes

@@ -1,8 +1,8 @@
 -- What is read as a value is written as the same bytes, is well formed, and its numbers fit their fields. Assumes nothing.
 use Prim.Native.Nat.{ℕ, zero, suc, _+_, _-_, _≤_, _<_}
-use mathlib.Core.Path.{_≡_, refl, ap, sym, _∙_}
-use mathlib.Core.List.{List, [], _∷_, _++_}
-use mathlib.Core.Bool.{Bool, true, false}
+use mathlib.Core.Path.{_≡_, refl, sym, _∙_}
+use mathlib.Core.List.{List, [], _∷_}
+use mathlib.Core.Bool.{true}
 use native.Mathlib.Omega.{arith}
 use lib.ListN.{getD, length}
 use lib.Dec.{leb, ltb, eqb}
@@ -16,14 +16,12 @@ use Rattle.key.specs.declared.KeyRead.{KeyRead}
 use Rattle.key.specs.declared.KeyRead.the-variants as kr
 use Rattle.key.proofs.Laws.{key-same, key-well, key-fits}
 use Rattle.value.specs.Values.{digestAt, digestBytes, markByte, linkOf, linkAt, linkBytes, sideAt, sideBytes, nodeEnd, nodeThen, nodeAt, nodeBytes, fingerprintAt, fingerprintBytes, valueAt, valueBytes, wellSide, wellValue, DigestFits, SideFits, ValueFits}
-use Rattle.value.specs.declared.Digest.{Digest}
 use Rattle.value.specs.declared.Side.{Side}
 use Rattle.value.specs.declared.Side.the-variants.{Empty, Link}
 use Rattle.value.specs.declared.SideRead.{SideRead}
 use Rattle.value.specs.declared.SideRead.the-variants as sr
 use Rattle.value.specs.declared.Value.{Value}
 use Rattle.value.specs.declared.Value.the-variants as v
-use Rattle.value.specs.declared.ValueRead.{ValueRead}
 use Rattle.value.specs.declared.ValueRead.the-variants as vr
 
 -- a side stands at a place, in n bytes

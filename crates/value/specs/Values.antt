@@ -5,7 +5,7 @@ use mathlib.Core.Bool.{Bool, true, false}
 use lib.ListN.{length, getD}
 use lib.Dec.{ltb, leb, eqb}
 use Rattle.words.specs.Choice.{pick, both, no}
-use Rattle.words.specs.Numbers.{numberAt, bytesOf}
+use Rattle.words.specs.Numbers.{numberAt, fourWords}
 use Rattle.key.specs.Keys.{keyAt, keyBytes, wellKey, keyEq, isData, KeyFits}
 use Rattle.key.specs.declared.Key.{Key}
 use Rattle.key.specs.declared.KeyRead.{KeyRead}
@@ -28,7 +28,7 @@ digestAt s at =
     record { d0 = numberAt 8 s at; d1 = numberAt 8 s (at + 8); d2 = numberAt 8 s (at + 16); d3 = numberAt 8 s (at + 24) }
 
 unfoldable pub digestBytes : Digest → List ℕ
-digestBytes d = bytesOf 8 (d .d0) ++ (bytesOf 8 (d .d1) ++ (bytesOf 8 (d .d2) ++ bytesOf 8 (d .d3)))
+digestBytes d = fourWords (d .d0) (d .d1) (d .d2) (d .d3)
 
 unfoldable pub digestEq : Digest → Digest → Bool
 digestEq a b =

@@ -1,10 +1,11 @@
 // Values: none, a fingerprint, or a node of two sides, each empty or a link. 1, 33, 3, 70 or 137 bytes.
-// Promises upward: what is written is read back, and what is read is written as the same bytes. The tests on values are in `tree`.
+// Promises upward: a well-formed value is read back from its bytes, and what is read is written as the same bytes. The tests that the
+// entries make on values are in `tree`.
 ghost use mathlib.Core.Path.{_≡_};
-ghost use Prim.Native.Nat.{ℕ, _+_, _≤_, _<_};
+ghost use Prim.Native.Nat.{_+_, _≤_};
 ghost use lib.ListN.{length};
 ghost use Rattle.words.specs.Splices.{splice};
-ghost use Rattle.value.specs.Values.{digestAt, digestBytes, digestEq, markByte, linkAt, linkBytes, sideAt, sideEnd, sideBytes, nodeAt, nodeBytes, fingerprintAt, fingerprintBytes, valueAt, valueEnd, valueBytes};
+ghost use Rattle.value.specs.Values.{digestAt, digestBytes, digestEq, markByte, linkAt, linkBytes, sideAt, sideEnd, sideBytes, nodeAt, nodeBytes, fingerprintAt, fingerprintBytes, valueAt, valueEnd, valueBytes, wellSide, wellValue};
 use key::Key;
 use key::KeyRead;
 use words::Four;
@@ -25,11 +26,11 @@ const EMPTY_TAG: u8 = 0;
 const LINK_TAG: u8 = 1;
 
 // A tag alone: the value none, and the empty side.
-pub const TAG_BYTES: usize = 1;
+const TAG_BYTES: usize = 1;
 
-pub const FINGERPRINT_BYTES: usize = 33;
+const FINGERPRINT_BYTES: usize = 33;
 
-pub const LINK_BYTES: usize = 68;
+const LINK_BYTES: usize = 68;
 
 // The widest value: a node of two links.
 pub const VALUE_BYTES: usize = 137;
@@ -232,6 +233,54 @@ pub fn read_value(s: &[u8], at: usize) -> ValueRead
         return read_node(s, at);
     }
     ValueRead::Bad
+}
+
+fn well_side(x: Side) -> bool
+    ensures { λ r. ⌜ r ≡ wellSide x ⌝ }
+{
+    match x {
+        Side::Empty => true,
+        Side::Link { key, .. } => and(key.well(), 0 < key.len),
+    }
+}
+
+// Whether the bytes of a value would be read back: every link names a well-formed key, and not the root.
+pub fn well_value(x: Value) -> bool
+    ensures { λ r. ⌜ r ≡ wellValue x ⌝ }
+{
+    match x {
+        Value::None => true,
+        Value::Fingerprint(_) => true,
+        Value::Node(n) => {
+            let l = n.left;
+            let r = n.right;
+            and(well_side(l), well_side(r))
+        }
+    }
+}
+
+fn side_length(x: Side) -> usize
+    ensures { λ r. ⌜ (r ≡ length (sideBytes x)) × (r ≤ 68) ⌝ }
+{
+    match x {
+        Side::Empty => TAG_BYTES,
+        Side::Link { .. } => LINK_BYTES,
+    }
+}
+
+// How many bytes a value takes.
+pub fn value_length(x: Value) -> usize
+    ensures { λ r. ⌜ (r ≡ length (valueBytes x)) × (r ≤ 137) ⌝ }
+{
+    match x {
+        Value::None => TAG_BYTES,
+        Value::Fingerprint(_) => FINGERPRINT_BYTES,
+        Value::Node(n) => {
+            let l = n.left;
+            let r = n.right;
+            TAG_BYTES + side_length(l) + side_length(r)
+        }
+    }
 }
 
 // Inner.

@@ -3,14 +3,14 @@ use Prim.Native.Nat.{ℕ, zero, suc, _+_, _*_, _-_, _/_, _%_, _^_, _≤_, _<_}
 use mathlib.Core.Path.{_≡_, refl, ap, sym, _∙_}
 use mathlib.Core.List.{List, [], _∷_, _++_, append-assoc, append-nil}
 use mathlib.Core.Bool.{Bool, true, false, false≢true}
-use native.Mathlib.Nat.{mod-eq-of-lt, add-assoc, add-zero, add-suc, one-le-pow, mod-lt, div-one, div-div-eq-div-mul, mul-comm, mul-assoc, pow-suc, add-sub-cancel-left, sub-zero, zero-sub, suc-sub-suc, zero-add, div-add-mod', div-lt-iff-lt-mul}
+use native.Mathlib.Nat.{mod-eq-of-lt, add-assoc, add-zero, add-suc, one-le-pow, mod-lt, div-one, div-div-eq-div-mul, mul-comm, mul-assoc, pow-suc, add-sub-cancel-left, zero-add, div-add-mod', div-lt-iff-lt-mul}
 use native.Mathlib.Numerals.{add-one}
 use native.Mathlib.Decide.{decLt}
 use native.Mathlib.Omega.{arith}
 use lib.Dec.{lit<}
 use lib.Arith.{mod-mul, digits-lt, digits-div, digits-mod}
-use lib.ListN.{length, getD, take, drop, set, replicate, length-append, length-take, length-drop, length-replicate, take-append-drop, List·getD-append, List·getD-eq-default}
-use lib.Seq.{take-append-seam, drop-append-add, drop-drop, set-split, getD-at, getD-append-add, getD-drop, take-suc, take-at, length-take-le, take-add, getD-take}
+use lib.ListN.{length, getD, take, drop, set, length-append, length-take, length-drop, length-replicate, take-append-drop, List·getD-append, List·getD-eq-default}
+use lib.Seq.{take-append-seam, drop-append-add, drop-drop, drop-length, set-split, getD-at, getD-append-add, getD-drop, take-suc, take-at, take-all, length-take-le, take-add, getD-take}
 use Rattle.words.specs.Choice.{pick, both}
 use Rattle.words.specs.Numbers.{numberAt, bytesOf, fourWords, zeros, Bytes}
 use Rattle.words.specs.Splices.{splice, part}
@@ -100,6 +100,10 @@ bytes-front a (suc b) x =
 pub bytes-split : (a b x : ℕ) → bytesOf (a + b) x ≡ bytesOf a (x / 256 ^ b) ++ bytesOf b (x % 256 ^ b)
 bytes-split a b x = rw bytes-low (bytes-front a b x)
 
+-- two numbers written side by side are one
+pub bytes-join : (m n a b : ℕ) → b < 256 ^ n → bytesOf m a ++ bytesOf n b ≡ bytesOf (m + n) (a * 256 ^ n + b)
+bytes-join m n a b h = sym (rw (digits-div a h, digits-mod a h) at (bytes-split m n (a * 256 ^ n + b)))
+
 pub zeros-length : (n : ℕ) → length (zeros n) ≡ n
 unfolding zeros
 zeros-length n = length-replicate n 0
@@ -130,6 +134,11 @@ unfolding splice
 take-splice d v at n e h =
     rw (← append-assoc (take at d) v (drop (at + length v) d))
     (take-at (take at d ++ v) (drop (at + length v) d) (at + n) (simp (length-append, length-take) (omega arith)))
+
+-- bytes put in the place of all
+pub splice-all : (d v : List ℕ) → length v ≡ length d → splice d 0 v ≡ v
+unfolding splice
+splice-all d v e = rw (zero-add, e, drop-length) (append-nil v)
 
 -- one store
 pub set-splice : (d : List ℕ) (at x : ℕ) → at < length d → set d at x ≡ splice d at (x ∷ [])
@@ -165,12 +174,12 @@ pub put-join : (a b : ℕ) (d m r : List ℕ) (at x : ℕ) → m ≡ splice d at
 put-join a b d m r at x p q h =
     rw bytes-split (splice-step d m r at a (bytesOf a (x / 256 ^ b)) (bytesOf b (x % 256 ^ b)) p q (bytes-length a (x / 256 ^ b)) (omega arith))
 
--- ---- a copy, byte by byte
-
-pub copy-none : (d s : List ℕ) (at : ℕ) → d ≡ splice d at (take 0 s)
+-- no bytes in the place of others
+pub splice-none : (d : List ℕ) (at : ℕ) → d ≡ splice d at []
 unfolding splice
-copy-none d s at = rw add-zero (sym (take-append-drop at d))
+splice-none d at = rw add-zero (sym (take-append-drop at d))
 
+-- a copy, with one byte more
 pub copy-more : (d s : List ℕ) (at i : ℕ) → i < length s → at + length s ≤ length d → set (splice d at (take i s)) (at + i) (getD s i 0) ≡ splice d at (take (i + 1) s)
 copy-more d s at i h f =
     let n : length (take i s) ≡ i = length-take-le i s (omega arith) in
@@ -212,6 +221,10 @@ number-at n x at p r e h =
 -- two parts side by side make one
 pub part-join : (s : List ℕ) (at m to n : ℕ) → at + m ≡ to → part s at m ++ part s to n ≡ part s at (m + n)
 part-join s at m to n e = rw (← e, take-add m n (drop at s), drop-drop)
+
+-- the part from a place on is all that is left there
+pub part-rest : (s : List ℕ) (at : ℕ) → part s at (length s - at) ≡ drop at s
+part-rest s at = take-all (length s - at) (drop at s) (simp length-drop (omega arith))
 
 -- ---- four words side by side
 
@@ -289,10 +302,14 @@ unfolding bytesOf
 number-bytes zero x = no-bytes
 number-bytes (suc n) x = append-bytes (bytesOf n (x / 256)) (x % 256 ∷ []) (number-bytes n (x / 256)) (one-byte (x % 256) (mod-lt x (lit< tt)))
 
--- a part of bytes is bytes
+-- what is left of bytes is bytes
+pub drop-bytes : (s : List ℕ) (at : ℕ) → Bytes s → Bytes (drop at s)
+drop-bytes s at b i = rw getD-drop (b (at + i))
+
+-- and so is a part
 pub part-bytes : (s : List ℕ) (at n : ℕ) → Bytes s → Bytes (part s at n)
 part-bytes s at n b i = elim (decLt i n) [
-  | yes h ↦ rw (getD-take n (drop at s) i 0 h, getD-drop at s i 0) (b (at + i))
+  | yes h ↦ rw (getD-take n (drop at s) i 0 h) (drop-bytes s at b i)
   | no h ↦ rw (List·getD-eq-default (part s at n) 0 {n = i} (rw (length-take n (drop at s)) (omega arith))) (lit< tt)
 ]
 

@@ -2,7 +2,7 @@
 // The readers and writers ask that the bytes are there: they are inner, for the crates above.
 ghost use mathlib.Core.Path.{_≡_};
 ghost use mathlib.Core.List.{[], _∷_};
-ghost use Prim.Native.Nat.{ℕ, _+_, _-_, _^_, _≤_, _<_};
+ghost use Prim.Native.Nat.{_+_, _*_, _-_, _^_, _≤_, _<_};
 ghost use lib.ListN.{length};
 ghost use Rattle.words.specs.Choice.{both, no};
 ghost use Rattle.words.specs.Numbers.{numberAt, bytesOf, fourAt, fourWords};
@@ -15,6 +15,11 @@ const THIRD_WORD: usize = 16;
 
 const FOURTH_WORD: usize = 24;
 
+// How many values a number of one byte has, and of four.
+const BYTE_VALUES: u64 = 256;
+
+const QUAD_VALUES: u64 = 4294967296;
+
 // Four words side by side, as a data key and a digest have them.
 pub struct Four {
     pub first: u64,
@@ -23,10 +28,25 @@ pub struct Four {
     pub fourth: u64,
 }
 
+// A byte as a word.
 pub fn wide(x: u8) -> u64
     ensures { λ r. ⌜ (r ≡ x) × (r < 256) ⌝ }
 {
     x as u64
+}
+
+// Two words of 32 bits as one of 64.
+pub fn joined(high: u32, low: u32) -> u64
+    ensures { λ r. ⌜ (r ≡ high * 2 ^ 32 + low) × (high < 2 ^ 32) × (low < 2 ^ 32) ⌝ }
+{
+    (high as u64) * QUAD_VALUES + (low as u64)
+}
+
+// a less b, or 0.
+pub fn less(a: u64, b: u64) -> u64
+    ensures { λ r. ⌜ r ≡ a - b ⌝ }
+{
+    if a < b { 0 } else { a - b }
 }
 
 // Two bytes. Inner.
@@ -34,15 +54,15 @@ pub fn pair_at(s: &[u8], at: usize) -> u64
     requires { ⌜ at + 2 ≤ length (now s) ⌝ }
     ensures { λ r. ⌜ (r ≡ numberAt 2 (now (s .entry)) at) × (r < 2 ^ 16) ⌝ }
 {
-    wide(s[at]) * 256 + wide(s[at + 1])
+    wide(s[at]) * BYTE_VALUES + wide(s[at + 1])
 }
 
-// Four bytes. Inner.
+// Four bytes, one after another: in this form the compiler reads them at once, and in word_at all eight. Inner.
 pub fn quad_at(s: &[u8], at: usize) -> u64
     requires { ⌜ at + 4 ≤ length (now s) ⌝ }
     ensures { λ r. ⌜ (r ≡ numberAt 4 (now (s .entry)) at) × (r < 2 ^ 32) ⌝ }
 {
-    pair_at(s, at) * 65536 + pair_at(s, at + 2)
+    (pair_at(s, at) * BYTE_VALUES + wide(s[at + 2])) * BYTE_VALUES + wide(s[at + 3])
 }
 
 // Eight bytes. Inner.
@@ -50,7 +70,7 @@ pub fn word_at(s: &[u8], at: usize) -> u64
     requires { ⌜ at + 8 ≤ length (now s) ⌝ }
     ensures { λ r. ⌜ r ≡ numberAt 8 (now (s .entry)) at ⌝ }
 {
-    quad_at(s, at) * 4294967296 + quad_at(s, at + 4)
+    quad_at(s, at) * QUAD_VALUES + quad_at(s, at + 4)
 }
 
 // Thirty-two bytes. Inner.
@@ -87,6 +107,7 @@ pub fn put_u8(s: &mut [u8], at: usize, x: u8)
     s[at] = x;
 }
 
+// One byte, as a number. Inner.
 fn put_byte(s: &mut [u8], at: usize, x: u64)
     requires { ⌜ (at < length (now s)) × (x < 256) ⌝ }
     ensures { λ _. ⌜ now (s .exit) ≡ splice (now (s .entry)) at (bytesOf 1 x) ⌝ }
@@ -99,8 +120,8 @@ pub fn put_pair(s: &mut [u8], at: usize, x: u64)
     requires { ⌜ (at + 2 ≤ length (now s)) × (x < 2 ^ 16) ⌝ }
     ensures { λ _. ⌜ now (s .exit) ≡ splice (now (s .entry)) at (bytesOf 2 x) ⌝ }
 {
-    put_byte(s, at, x / 256);
-    put_byte(s, at + 1, x % 256);
+    put_byte(s, at, x / BYTE_VALUES);
+    put_byte(s, at + 1, x % BYTE_VALUES);
 }
 
 // Four bytes. Inner.
@@ -108,17 +129,33 @@ pub fn put_quad(s: &mut [u8], at: usize, x: u64)
     requires { ⌜ (at + 4 ≤ length (now s)) × (x < 2 ^ 32) ⌝ }
     ensures { λ _. ⌜ now (s .exit) ≡ splice (now (s .entry)) at (bytesOf 4 x) ⌝ }
 {
-    put_pair(s, at, x / 65536);
-    put_pair(s, at + 2, x % 65536);
+    let a = x / BYTE_VALUES;
+    let b = a / BYTE_VALUES;
+    put_byte(s, at, b / BYTE_VALUES);
+    put_byte(s, at + 1, b % BYTE_VALUES);
+    put_byte(s, at + 2, a % BYTE_VALUES);
+    put_byte(s, at + 3, x % BYTE_VALUES);
 }
 
-// Eight bytes. Inner.
+// Eight bytes, each from the one number: in this form the compiler writes them at once. Inner.
 pub fn put_word(s: &mut [u8], at: usize, x: u64)
     requires { ⌜ at + 8 ≤ length (now s) ⌝ }
     ensures { λ _. ⌜ now (s .exit) ≡ splice (now (s .entry)) at (bytesOf 8 x) ⌝ }
 {
-    put_quad(s, at, x / 4294967296);
-    put_quad(s, at + 4, x % 4294967296);
+    let a = x / BYTE_VALUES;
+    let b = a / BYTE_VALUES;
+    let c = b / BYTE_VALUES;
+    let d = c / BYTE_VALUES;
+    let e = d / BYTE_VALUES;
+    let f = e / BYTE_VALUES;
+    put_byte(s, at, f / BYTE_VALUES);
+    put_byte(s, at + 1, f % BYTE_VALUES);
+    put_byte(s, at + 2, e % BYTE_VALUES);
+    put_byte(s, at + 3, d % BYTE_VALUES);
+    put_byte(s, at + 4, c % BYTE_VALUES);
+    put_byte(s, at + 5, b % BYTE_VALUES);
+    put_byte(s, at + 6, a % BYTE_VALUES);
+    put_byte(s, at + 7, x % BYTE_VALUES);
 }
 
 // The bytes of src; where they end. Inner.

@@ -1,11 +1,10 @@
--- How long the bytes of entries are, and what their stores make. Assumes nothing.
+-- How long the bytes of entries are, and what the writer answers. Assumes nothing.
 use Prim.Native.Nat.{ℕ, _+_, _≤_, _<_}
 use mathlib.Core.Bool.{true, false}
 use mathlib.Core.Path.{_≡_, refl}
-use mathlib.Core.List.{List, []}
-use native.Mathlib.Nat.{add-zero}
+use mathlib.Core.List.{List}
 use native.Mathlib.Omega.{arith}
-use lib.ListN.{length, length-append, take-append-drop}
+use lib.ListN.{length, length-append}
 use borrow.Author.Tests.{lt-ltb, le-ltb}
 use Rattle.words.specs.Splices.{splice}
 use Rattle.words.proofs.Laws.{bytes-length}
@@ -63,11 +62,6 @@ body-small e = rw (body-length e) (small e)
 pub entry-length : (e : Entry) → length (entryBytes e) ≡ 3 + length (entryBody e)
 unfolding entryBytes
 entry-length e = simp (length-append, bytes-length) (omega arith)
-
--- no bytes in the place of others
-pub splice-none : (d : List ℕ) (at : ℕ) → d ≡ splice d at []
-unfolding splice
-splice-none d at = rw (add-zero at, take-append-drop)
 
 -- ---- the answers
 

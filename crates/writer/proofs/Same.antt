@@ -1,10 +1,10 @@
 -- What is read as an entry is written as the same bytes, so no two byte strings mean one entry. Assumes nothing.
-use Prim.Native.Nat.{ℕ, _+_, _-_, _^_, _≤_, _<_}
+use Prim.Native.Nat.{ℕ, _+_, _^_, _≤_, _<_}
 use mathlib.Core.Path.{_≡_, refl, sym, _∙_}
 use mathlib.Core.List.{List, [], _∷_, _++_}
 use mathlib.Core.Bool.{true, false, true≢false}
 use native.Mathlib.Omega.{arith}
-use lib.ListN.{length, getD, take, length-take, length-drop}
+use lib.ListN.{length, take, length-take, length-drop}
 use lib.Seq.{take-length}
 use lib.Dec.{ltb, eqb}
 use borrow.Author.Tests.{ltb-false, eqb-true}
@@ -30,6 +30,7 @@ use Rattle.entry.specs.declared.EntryRead.the-variants.{Good, Bad}
 use Rattle.entry.specs.declared.Head.{Head}
 use Rattle.entry.specs.declared.Head.the-variants.{Cut, Whole}
 use Rattle.entry.specs.declared.Reading.the-variants as reading
+use Rattle.entry.proofs.Laws.{HeadThere, head-there}
 use Rattle.writer.specs.Writings.{EntryFits}
 
 -- ---- the bodies
@@ -200,36 +201,20 @@ pub record EntryThere (log : List ℕ) (e : Entry) (n : ℕ) : Type 0 where
   pub fits : EntryFits e
   pub within : n ≤ length log
 
--- the head of a log is whole
-record HeadThere (log : List ℕ) (t m : ℕ) : Type 0 where
-  tag : t ≡ getD log 0 0
-  size : m ≡ numberAt 2 log 1
-  within : 3 + m ≤ length log
-
-head-same : (log : List ℕ) (t m : ℕ) → headOf log ≡ Whole t m → HeadThere log t m
-unfolding headOf
-head-same log t m p =
-    picked (ltb (length log) 3) _ _ _ p (λ _ q. never cc) λ a q.
-    picked (ltb (length log - 3) (numberAt 2 log 1)) _ _ _ q (λ _ u. never cc) λ c u.
-    let l : m ≡ numberAt 2 log 1 = cc in
-    let f : 3 ≤ length log = ltb-false (length log) 3 a in
-    let g : numberAt 2 log 1 ≤ length log - 3 = ltb-false (length log - 3) (numberAt 2 log 1) c in
-    record { tag = cc; size = l; within = omega arith }
-
 module _ (log : List ℕ) (b : Bytes log) where
   whole-same : (t m : ℕ) (e : Entry) → HeadThere log t m → BodyThere t (part log 3 m) e → EntryThere log e (3 + m)
   unfolding entryBytes
   whole-same t m e h there =
-      let l : length (part log 3 m) ≡ m = simp (length-take, length-drop) (omega (arith, h .within)) in
+      let l : length (part log 3 m) ≡ m = simp (length-take, length-drop) (omega (arith, h .whole)) in
       record {
         bytes =
             rw (there .tag, there .body, l)
-            (part-step log 0 1 1 (2 + m) (3 + m) (t ∷ []) _ (sym (part-one log 0 (omega (arith, h .within)) ∙ rw (← h .tag)))
-            (part-step log 1 2 3 m (2 + m) (bytesOf 2 m) _ (rw (h .size) (bytes-back 2 log 1 b (omega (arith, h .within)))) refl refl refl)
+            (part-step log 0 1 1 (2 + m) (3 + m) (t ∷ []) _ (sym (part-one log 0 (omega (arith, h .whole)) ∙ rw (h .tag)))
+            (part-step log 1 2 3 m (2 + m) (bytesOf 2 m) _ (rw (← h .len) (bytes-back 2 log 1 b (omega (arith, h .whole)))) refl refl refl)
             refl (omega arith));
         well = there .well;
         fits = there .fits;
-        within = h .within;
+        within = h .whole;
       }
 
   -- what is read as an entry is written as the same bytes
@@ -246,7 +231,7 @@ module _ (log : List ℕ) (b : Bytes log) where
 
       go : (h : Head) → headOf log ≡ h → readBy log h ≡ reading.Good e n → EntryThere log e n
       go Cut q u = never cc
-      go (Whole t m) q u = body t m (head-same log t m q) (entryOf t (part log 3 m)) refl u
+      go (Whole t m) q u = body t m (head-there log t m q) (entryOf t (part log 3 m)) refl u
 
   -- an entry that is not well formed is read from no bytes at all, its own among them
   pub not-well : (e : Entry) (n : ℕ) → wellEntry e ≡ false → readEntry log ≡ reading.Good e n → ⊥

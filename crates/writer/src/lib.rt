@@ -7,7 +7,7 @@ ghost use lib.ListN.{length};
 ghost use Rattle.words.specs.Numbers.{bytesOf};
 ghost use Rattle.words.specs.Splices.{splice};
 ghost use Rattle.key.specs.Keys.{keyBytes, dataBytes, KeyFits};
-ghost use Rattle.value.specs.Values.{sideBytes, valueBytes, wellSide, wellValue, DigestFits, SideFits, ValueFits};
+ghost use Rattle.value.specs.Values.{valueBytes, DigestFits, SideFits, ValueFits};
 ghost use Rattle.entry.specs.Entries.{entryTag, entryBody, entryBytes, wellEntry};
 ghost use Rattle.writer.specs.Writings.{writing, writeEntry, EntryFits};
 use entry::Entry;
@@ -17,6 +17,8 @@ use message::Time;
 use value::Digest;
 use value::Side;
 use value::Value;
+use value::value_length;
+use value::well_value;
 use value::write_value;
 use verdict::ACCEPTED;
 use verdict::MALFORMED;
@@ -26,40 +28,13 @@ use words::put_pair;
 use words::put_u8;
 use words::put_word;
 
-// The value none, and the empty side.
-const TAG_BYTES: usize = 1;
-
 // What the writer answers: 0, 2 or 27, and how many bytes it wrote.
 pub struct Written {
     pub verdict: u32,
     pub used: usize,
 }
 
-// ---- whether the bytes would be read back
-
-fn well_side(x: Side) -> bool
-    ensures { λ r. ⌜ r ≡ wellSide x ⌝ }
-{
-    match x {
-        Side::Empty => true,
-        Side::Link { key, .. } => and(key.well(), 0 < key.len),
-    }
-}
-
-fn well_value(x: Value) -> bool
-    ensures { λ r. ⌜ r ≡ wellValue x ⌝ }
-{
-    match x {
-        Value::None => true,
-        Value::Fingerprint(_) => true,
-        Value::Node(n) => {
-            let l = n.left;
-            let r = n.right;
-            and(well_side(l), well_side(r))
-        }
-    }
-}
-
+// Whether the bytes would be read back.
 fn well_entry(e: Entry) -> bool
     ensures { λ r. ⌜ r ≡ wellEntry e ⌝ }
 {
@@ -77,31 +52,7 @@ fn well_entry(e: Entry) -> bool
     }
 }
 
-// ---- how many bytes
-
-fn side_length(x: Side) -> usize
-    ensures { λ r. ⌜ (r ≡ length (sideBytes x)) × (r ≤ 68) ⌝ }
-{
-    match x {
-        Side::Empty => TAG_BYTES,
-        Side::Link { .. } => value::LINK_BYTES,
-    }
-}
-
-fn value_length(x: Value) -> usize
-    ensures { λ r. ⌜ (r ≡ length (valueBytes x)) × (r ≤ 137) ⌝ }
-{
-    match x {
-        Value::None => TAG_BYTES,
-        Value::Fingerprint(_) => value::FINGERPRINT_BYTES,
-        Value::Node(n) => {
-            let l = n.left;
-            let r = n.right;
-            TAG_BYTES + side_length(l) + side_length(r)
-        }
-    }
-}
-
+// How many bytes the body takes.
 fn body_length(e: Entry) -> usize
     ensures { λ r. ⌜ (r ≡ length (entryBody e)) × (r < 2 ^ 16) ⌝ }
 {
@@ -109,7 +60,7 @@ fn body_length(e: Entry) -> usize
         Entry::AddTree { value, .. } => entry::ADD_TREE_VALUE + value_length(value),
         Entry::AddDeferred { value, .. } => entry::ADD_DEFERRED_VALUE + value_length(value),
         Entry::EvictTree { .. } => entry::TWO_SLOTS,
-        Entry::EvictDeferred { .. } => entry::SLOT_BYTES,
+        Entry::EvictDeferred { .. } => entry::ONE_SLOT,
         Entry::EvictTreeDeferred { .. } => entry::TWO_SLOTS,
         Entry::Get { value, .. } => entry::DATA_VALUE + value_length(value),
         Entry::Absent { .. } => entry::DATA_VALUE,
@@ -127,7 +78,7 @@ fn write_add_tree(s: u16, p: u16, k: Key, x: Value, out: &mut [u8], at: usize)
     ensures { λ _. ⌜ now (out .exit) ≡ splice (now (out .entry)) at (bytesOf 2 s ++ (bytesOf 2 p ++ (keyBytes k ++ valueBytes x))) ⌝ }
 {
     put_pair(out, at, s as u64);
-    put_pair(out, at + entry::SLOT_BYTES, p as u64);
+    put_pair(out, at + entry::ONE_SLOT, p as u64);
     k.write(out, at + entry::ADD_TREE_KEY);
     write_value(x, out, at + entry::ADD_TREE_VALUE);
 }
@@ -150,7 +101,7 @@ fn write_slots(s: u16, p: u16, out: &mut [u8], at: usize)
     ensures { λ _. ⌜ now (out .exit) ≡ splice (now (out .entry)) at (bytesOf 2 s ++ bytesOf 2 p) ⌝ }
 {
     put_pair(out, at, s as u64);
-    put_pair(out, at + entry::SLOT_BYTES, p as u64);
+    put_pair(out, at + entry::ONE_SLOT, p as u64);
 }
 
 // 6 and 8: s, 32-byte key, value. Inner.

@@ -1,5 +1,5 @@
-use mathlib.Core.Path.{sym, _∙_}
-use borrow.Author.Tests.{lt-ltb, le-ltb, eq-eqb, ne-eqb}
+use mathlib.Core.Path.{sym}
+use borrow.Author.Tests.{lt-ltb, le-ltb}
 use Rattle.entry.specs.Entries.{headOf}
 use borrow.Author.Needs.{needs}
 use Rattle.entry.proofs.head_of.Statement.{statement}

@@ -1,4 +1,4 @@
-use borrow.Author.Tests.{lt-ltb, le-ltb, eq-eqb, ne-eqb}
+use borrow.Author.Tests.{eq-eqb, ne-eqb}
 use Rattle.entry.specs.Entries.{emptyAt}
 use Rattle.entry.proofs.read_empty.Statement.{statement}
 use Rattle.entry.proofs.read_empty.Tie as tie

@@ -1,4 +1,4 @@
-use borrow.Author.Tests.{lt-ltb, le-ltb, eq-eqb, ne-eqb}
+use borrow.Author.Tests.{eq-eqb, ne-eqb}
 use Rattle.entry.specs.Entries.{evictDeferredAt}
 use borrow.Author.Needs.{needs}
 use Rattle.entry.proofs.read_evict_deferred.Statement.{statement}

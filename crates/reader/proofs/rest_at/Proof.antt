@@ -1,4 +1,5 @@
-use Rattle.reader.proofs.Laws.{rest-is, rest-past}
+use Rattle.words.proofs.Laws.{part-rest}
+use Rattle.reader.proofs.Laws.{rest-past}
 use native.Mathlib.Omega.{arith}
 use borrow.Author.Needs.{needs}
 use Rattle.reader.proofs.rest_at.Statement.{statement}
@@ -26,7 +27,7 @@ part-result-end-2 : tie.Need-part-result-end-2
 part-result-end-2 c = search needs
 
 returns-2 : tie.Need-returns-2
-returns-2 c = rest-is (c .before .before .args .log .now) (c .before .before .args .at)
+returns-2 c = part-rest (c .before .before .args .log .now) (c .before .before .args .at)
 
 pub rest-at-spec : {M : Type 1} → statement M
 rest-at-spec =

@@ -1,5 +1,5 @@
 use Rattle.reader.proofs.Laws.{used-head}
-use mathlib.Core.Path.{_≡_, sym, _∙_}
+use mathlib.Core.Path.{sym, _∙_}
 use native.Mathlib.Omega.{arith}
 use borrow.Author.Needs.{needs}
 use Rattle.reader.proofs.whole.Statement.{statement}

@@ -1,5 +1,6 @@
 use Rattle.state.proofs.Laws.{open-room, open-given, open-refused}
-use mathlib.Core.Path.{sym, _∙_}
+use Rattle.value.specs.declared.Value.the-variants as v
+use mathlib.Core.Path.{ap, sym, _∙_}
 use borrow.Author.Needs.{needs}
 use Rattle.state.proofs.open.Statement.{statement}
 use Rattle.state.proofs.open.Tie as tie
@@ -10,11 +11,11 @@ well-length-requires c κs = search needs
 clear-requires : tie.Need-clear-requires
 clear-requires c κs = search needs
 
+bare-node-requires : tie.Need-bare-node-requires
+bare-node-requires c κs = search needs
+
 root-requires : tie.Need-root-requires
 root-requires c κs = search needs
-
-root-value-requires : tie.Need-root-value-requires
-root-value-requires c κs = search needs
 
 set-slot-requires : tie.Need-set-slot-requires
 set-slot-requires c κs = open-room _ _ (sym (sym (c .before .before .before .before .before .before .before .before .well-length .ensures) ∙ c .before .before .before .before .before .before .before .if1 .taken)) (c .before .before .before .before .before .clear .ensures)
@@ -26,7 +27,7 @@ same-length : tie.Need-same-length
 same-length c = search needs
 
 returns : tie.Need-returns
-returns c = open-given _ _ _ _ _ _ _ (sym (sym (c .before .before .before .before .before .before .before .before .before .before .before .before .well-length .ensures) ∙ c .before .before .before .before .before .before .before .before .before .before .before .if1 .taken)) (c .before .before .before .before .before .before .before .before .before .clear .ensures) (c .before .before .before .before .before .root .ensures) (c .before .before .before .before .root-value .ensures) (c .before .before .before .set-slot .ensures) (c .fresh .ensures)
+returns c = open-given _ _ _ _ _ _ _ (sym (sym (c .before .before .before .before .before .before .before .before .before .before .before .before .well-length .ensures) ∙ c .before .before .before .before .before .before .before .before .before .before .before .if1 .taken)) (c .before .before .before .before .before .before .before .before .before .clear .ensures) (c .before .before .before .before .root .ensures) (ap v.Node (c .before .before .before .before .before .before .bare-node .ensures)) (c .before .before .before .set-slot .ensures) (c .fresh .ensures)
 
 zero-requires : tie.Need-zero-requires
 zero-requires c κs = search needs
@@ -43,8 +44,8 @@ open-spec =
     (tie.spec
     well-length-requires
     clear-requires
+    bare-node-requires
     root-requires
-    root-value-requires
     set-slot-requires
     fresh-requires
     same-length

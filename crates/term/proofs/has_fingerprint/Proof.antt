@@ -1,7 +1,6 @@
 use Rattle.term.specs.Terms.{matches}
 use Rattle.sha256.specs.Sha256.{sha256}
 use borrow.Author.Tests.{lt-ltb, le-ltb}
-use mathlib.Core.Path.{ap, _∙_, refl}
 use borrow.Author.Needs.{needs}
 use Rattle.term.proofs.has_fingerprint.Statement.{statement}
 use Rattle.term.proofs.has_fingerprint.Tie as tie

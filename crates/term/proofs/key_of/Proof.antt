@@ -1,8 +1,6 @@
 use Rattle.term.proofs.Laws.{joined}
 use Rattle.sha256.specs.Sha256.{sha256, hashBytes, hashOf}
 use lib.Seq.{length-take-le}
-use lib.ListN.{length}
-use native.Mathlib.Omega.{arith}
 use mathlib.Core.Path.{ap, sym, _∙_}
 use borrow.Author.Needs.{needs}
 use Rattle.term.proofs.key_of.Statement.{statement}

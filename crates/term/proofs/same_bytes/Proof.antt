@@ -3,7 +3,7 @@ use Rattle.term.specs.Terms.{sameBytes}
 use lib.ListN.{length, drop}
 use native.Mathlib.Omega.{arith}
 use Prim.Native.Nat.{_-_, _≤_}
-use mathlib.Core.Path.{_≡_, refl, sym, _∙_}
+use mathlib.Core.Path.{_≡_, refl, _∙_}
 use borrow.Author.Needs.{needs}
 use Rattle.term.proofs.same_bytes.Statement.{statement}
 use Rattle.term.proofs.same_bytes.Tie as tie

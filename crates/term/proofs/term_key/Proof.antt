@@ -1,7 +1,7 @@
 use Rattle.term.proofs.Laws.{good-fits}
 use Rattle.term.specs.Terms.{termKey}
 use Rattle.words.specs.Choice.{both}
-use mathlib.Core.Path.{ap, ap₂, sym, _∙_}
+use mathlib.Core.Path.{ap₂, sym, _∙_}
 use borrow.Author.Needs.{needs}
 use Rattle.term.proofs.term_key.Statement.{statement}
 use Rattle.term.proofs.term_key.Tie as tie

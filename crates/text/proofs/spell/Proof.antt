@@ -1,7 +1,7 @@
 use Rattle.text.proofs.Laws.{digit-room, digits-turn, digits-last, decimal-starts}
 use Rattle.text.specs.Text.{digitsBefore, decimal}
 use mathlib.Core.Path.{_≡_, sym, _∙_}
-use Prim.Native.Nat.{_+_, _-_, _^_, _≤_, _<_}
+use Prim.Native.Nat.{_-_, _^_, _≤_, _<_}
 use lib.ListN.{length, drop, length-set}
 use native.Mathlib.Omega.{arith}
 use Rattle.text.proofs.spell.Statement.{statement}

@@ -1,7 +1,7 @@
 use Rattle.words.specs.Choice.{no}
 use mathlib.Core.Path.{ap}
 use mathlib.Core.Path.{sym, _∙_}
-use Rattle.value.specs.Values.{fits, isNode}
+use Rattle.value.specs.Values.{fits}
 use borrow.Author.Needs.{needs}
 use Rattle.tree.proofs.fits.Statement.{statement}
 use Rattle.tree.proofs.fits.Tie as tie

@@ -1,4 +1,4 @@
-use mathlib.Core.Path.{sym, _∙_}
+use mathlib.Core.Path.{sym}
 use Rattle.value.specs.Values.{valueEq}
 use borrow.Author.Needs.{needs}
 use Rattle.tree.proofs.same_value.Statement.{statement}

@@ -1,4 +1,4 @@
-use borrow.Author.Tests.{lt-ltb, le-ltb, le-leb, lt-leb, eq-eqb, ne-eqb}
+use borrow.Author.Tests.{le-leb, lt-leb}
 use Rattle.value.specs.Values.{fingerprintAt}
 use borrow.Author.Needs.{needs}
 use Rattle.value.proofs.read_fingerprint.Statement.{statement}

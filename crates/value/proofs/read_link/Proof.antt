@@ -1,5 +1,5 @@
-use mathlib.Core.Path.{sym, refl, _∙_}
-use borrow.Author.Tests.{lt-ltb, le-ltb, le-leb, lt-leb, eq-eqb, ne-eqb}
+use mathlib.Core.Path.{sym, _∙_}
+use borrow.Author.Tests.{lt-ltb, le-ltb, eq-eqb, ne-eqb}
 use Rattle.value.specs.Values.{linkAt}
 use borrow.Author.Needs.{needs}
 use Rattle.value.proofs.read_link.Statement.{statement}

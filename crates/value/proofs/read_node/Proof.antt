@@ -1,5 +1,5 @@
 use native.Mathlib.Omega.{arith}
-use mathlib.Core.Path.{sym, refl, _∙_}
+use mathlib.Core.Path.{sym, _∙_}
 use Rattle.value.specs.Values.{nodeAt}
 use borrow.Author.Needs.{needs}
 use Rattle.value.proofs.read_node.Statement.{statement}

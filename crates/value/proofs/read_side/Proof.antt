@@ -1,5 +1,5 @@
 use native.Mathlib.Omega.{arith}
-use borrow.Author.Tests.{lt-ltb, le-ltb, le-leb, lt-leb, eq-eqb, ne-eqb}
+use borrow.Author.Tests.{le-leb, lt-leb, eq-eqb, ne-eqb}
 use Rattle.value.specs.Values.{sideAt}
 use borrow.Author.Needs.{needs}
 use Rattle.value.proofs.read_side.Statement.{statement}

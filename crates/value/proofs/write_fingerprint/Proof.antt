@@ -1,7 +1,7 @@
 use Rattle.words.proofs.Laws.{splice-step}
 use Rattle.value.proofs.Laws.{fingerprint-length}
 use native.Mathlib.Omega.{arith}
-use mathlib.Core.Path.{sym, refl, _∙_}
+use mathlib.Core.Path.{sym, refl}
 use Rattle.value.specs.Values.{fingerprintBytes}
 use borrow.Author.Needs.{needs}
 use Rattle.value.proofs.write_fingerprint.Statement.{statement}

@@ -3,7 +3,7 @@ use Rattle.value.proofs.Laws.{node-length}
 use native.Mathlib.Nat.{add-assoc}
 use Prim.Native.Nat.{_+_}
 use native.Mathlib.Omega.{arith}
-use mathlib.Core.Path.{sym, refl, _∙_}
+use mathlib.Core.Path.{refl}
 use Rattle.value.specs.Values.{nodeBytes}
 use borrow.Author.Needs.{needs}
 use Rattle.value.proofs.write_node.Statement.{statement}

@@ -1,6 +1,6 @@
 use Rattle.value.proofs.Laws.{link-length}
 use native.Mathlib.Omega.{arith}
-use mathlib.Core.Path.{sym, refl, _∙_}
+use mathlib.Core.Path.{sym, refl}
 use Rattle.value.specs.Values.{sideBytes}
 use borrow.Author.Needs.{needs}
 use Rattle.value.proofs.write_side.Statement.{statement}

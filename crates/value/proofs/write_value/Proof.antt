@@ -1,5 +1,5 @@
 use native.Mathlib.Omega.{arith}
-use mathlib.Core.Path.{sym, refl, _∙_}
+use mathlib.Core.Path.{refl}
 use Rattle.value.specs.Values.{valueBytes}
 use borrow.Author.Needs.{needs}
 use Rattle.value.proofs.write_value.Statement.{statement}

@@ -2,10 +2,10 @@ use lib.Seq.{take-all}
 use native.Mathlib.Omega.{arith}
 use mathlib.Core.List.{List}
 use lib.ListN.{length, take, set, getD, length-set}
-use Prim.Native.Nat.{ℕ, _+_, _-_, _≤_, _<_}
-use mathlib.Core.Path.{_≡_, refl, sym, ap, _∙_}
+use Prim.Native.Nat.{ℕ, _+_, _-_, _≤_}
+use mathlib.Core.Path.{_≡_, refl, ap, _∙_}
 use Rattle.words.specs.Splices.{splice}
-use Rattle.words.proofs.Laws.{copy-none, copy-more, splice-length}
+use Rattle.words.proofs.Laws.{splice-none, copy-more}
 use Rattle.words.proofs.put_bytes.Statement.{statement}
 use Rattle.words.proofs.put_bytes.Tie as tie
 
@@ -16,7 +16,7 @@ abbrev μ-loop : tie.MeasureT-loop
 μ-loop out₀ at src i₀ out i = length src - i
 
 loop-holds : tie.Need-loop-holds Inv-loop μ-loop
-loop-holds c = (omega arith, refl, copy-none _ (c .args .src .now) _)
+loop-holds c = (omega arith, refl, splice-none _ _)
 
 shared-slice-read-out : tie.Need-shared-slice-read-out Inv-loop μ-loop
 shared-slice-read-out c = omega arith

@@ -1,4 +1,5 @@
-use Rattle.writer.proofs.Laws.{body-length, splice-none}
+use Rattle.words.proofs.Laws.{splice-none}
+use Rattle.writer.proofs.Laws.{body-length}
 use Rattle.entry.specs.Entries.{entryBody}
 use borrow.Author.Needs.{needs}
 use Rattle.writer.proofs.write_body.Statement.{statement}

@@ -1,7 +1,7 @@
 use Rattle.value.specs.Values.{wellSide}
 use borrow.Author.Needs.{needs}
-use Rattle.writer.proofs.well_side.Statement.{statement}
-use Rattle.writer.proofs.well_side.Tie as tie
+use Rattle.value.proofs.well_side.Statement.{statement}
+use Rattle.value.proofs.well_side.Tie as tie
 
 enum-told : tie.Need-enum-told
 enum-told c = search needs

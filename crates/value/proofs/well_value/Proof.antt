@@ -1,7 +1,7 @@
 use Rattle.value.specs.Values.{wellValue}
 use borrow.Author.Needs.{needs}
-use Rattle.writer.proofs.well_value.Statement.{statement}
-use Rattle.writer.proofs.well_value.Tie as tie
+use Rattle.value.proofs.well_value.Statement.{statement}
+use Rattle.value.proofs.well_value.Tie as tie
 
 enum-told : tie.Need-enum-told
 enum-told c = search needs

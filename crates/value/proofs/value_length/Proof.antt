@@ -1,11 +1,11 @@
 use Rattle.value.proofs.Laws.{fingerprint-length, node-length}
 use Rattle.value.specs.Values.{valueBytes}
 use mathlib.Core.Path.{sym, refl}
 use native.Mathlib.Omega.{arith}
 use lib.Dec.{lit≤}
 use borrow.Author.Needs.{needs}
-use Rattle.writer.proofs.value_length.Statement.{statement}
-use Rattle.writer.proofs.value_length.Tie as tie
+use Rattle.value.proofs.value_length.Statement.{statement}
+use Rattle.value.proofs.value_length.Tie as tie
 
 enum-told : tie.Need-enum-told
 enum-told c = search needs

@@ -1,10 +1,10 @@
 use Rattle.value.proofs.Laws.{link-length}
 use Rattle.value.specs.Values.{sideBytes}
 use mathlib.Core.Path.{sym, refl}
 use lib.Dec.{lit≤}
 use borrow.Author.Needs.{needs}
-use Rattle.writer.proofs.side_length.Statement.{statement}
-use Rattle.writer.proofs.side_length.Tie as tie
+use Rattle.value.proofs.side_length.Statement.{statement}
+use Rattle.value.proofs.side_length.Tie as tie
 
 enum-told : tie.Need-enum-told
 enum-told c = search needs

@@ -32,7 +32,7 @@ fn apply(x: Expanded, e: Entry, st: State, cache: &mut [u8]) -> Done
             value,
         } => deferred_adds::add_deferred(x, s, epoch, time, key, value, st, cache),
         Entry::EvictTree { s, p } => evicts::evict_by(x, false, s, p, st, cache),
-        Entry::EvictDeferred { s } => evicts::evict_deferred(x, s, st, cache),
+        Entry::EvictDeferred { s } => deferred_evicts::evict_deferred(x, s, st, cache),
         Entry::EvictTreeDeferred { s, p } => evicts::evict_by(x, true, s, p, st, cache),
         Entry::Get { s, key, value } => answers::get(s, key, value, st, cache),
         Entry::Absent { p, key } => answers::absent(p, key, st, cache),

@@ -2,8 +2,8 @@ use Rattle.rules.specs.Adds.{namedEpoch}
 use mathlib.Core.Path.{sym}
 use borrow.Author.Tests.{eq-eqb, ne-eqb}
 use borrow.Author.Needs.{needs}
-use Rattle.adds.proofs.named_epoch.Statement.{statement}
-use Rattle.adds.proofs.named_epoch.Tie as tie
+use Rattle.deferred_adds.proofs.named_epoch.Statement.{statement}
+use Rattle.deferred_adds.proofs.named_epoch.Tie as tie
 
 returns : tie.Need-returns
 unfolding namedEpoch

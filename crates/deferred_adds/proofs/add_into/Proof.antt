@@ -1,8 +1,8 @@
 use Rattle.rules.specs.Adds.{addInto}
 use mathlib.Core.Path.{sym, _∙_}
 use borrow.Author.Needs.{needs}
-use Rattle.adds.proofs.add_into.Statement.{statement}
-use Rattle.adds.proofs.add_into.Tie as tie
+use Rattle.deferred_adds.proofs.add_into.Statement.{statement}
+use Rattle.deferred_adds.proofs.add_into.Tie as tie
 
 named-epoch-requires : tie.Need-named-epoch-requires
 named-epoch-requires c κs = search needs

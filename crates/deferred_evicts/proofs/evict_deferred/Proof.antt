@@ -2,8 +2,8 @@ use Rattle.rules.specs.Evicts.{evictDeferred}
 use mathlib.Core.Path.{sym, _∙_}
 use borrow.Author.Tests.{eq-eqb, le-leb, lt-leb, ne-eqb}
 use borrow.Author.Needs.{needs}
-use Rattle.evicts.proofs.evict_deferred.Statement.{statement}
-use Rattle.evicts.proofs.evict_deferred.Tie as tie
+use Rattle.deferred_evicts.proofs.evict_deferred.Statement.{statement}
+use Rattle.deferred_evicts.proofs.evict_deferred.Tie as tie
 
 gives-requires : tie.Need-gives-requires
 gives-requires c κs = search needs

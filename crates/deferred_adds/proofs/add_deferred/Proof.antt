@@ -2,8 +2,8 @@ use Rattle.rules.specs.Adds.{addDeferred}
 use mathlib.Core.Path.{sym, _∙_}
 use borrow.Author.Tests.{le-leb, lt-leb}
 use borrow.Author.Needs.{needs}
-use Rattle.adds.proofs.add_deferred.Statement.{statement}
-use Rattle.adds.proofs.add_deferred.Tie as tie
+use Rattle.deferred_adds.proofs.add_deferred.Statement.{statement}
+use Rattle.deferred_adds.proofs.add_deferred.Tie as tie
 
 gives-requires : tie.Need-gives-requires
 gives-requires c κs = search needs

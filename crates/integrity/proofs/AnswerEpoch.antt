@@ -24,8 +24,8 @@ use Rattle.rules.specs.Outcomes.{Outcome, accepts}
 use Rattle.rules.specs.Answers.{getSlot, get, absentSide, absentNode, absentSlot, absent}
 use Rattle.rules.specs.Steps.{entryStep, step}
 use Rattle.integrity.specs.Statement.{Moment, after, taken}
-use Rattle.integrity.proofs.Refused.{Stepping, step-settles}
-use Rattle.integrity.proofs.Refused as refused
+use Rattle.rules.proofs.Refused.{Stepping, step-settles}
+use Rattle.rules.proofs.Refused as refused
 
 module _ (st : State) (c : List ℕ) where
   -- state and cache are as they were

@@ -22,7 +22,7 @@ use Rattle.integrity.proofs.Lane as lane
 use Rattle.integrity.proofs.Tallies.{tags, sum-is}
 use Rattle.integrity.proofs.Opened.{opened-stands}
 use Rattle.integrity.proofs.Settled.{settled-is, closed-settled}
-use Rattle.integrity.proofs.Refused.{step-short}
+use Rattle.rules.proofs.Refused.{step-short}
 use Rattle.integrity.proofs.Replay.{first-stood, AgreeAll, each-agrees, Replay, held-stood, replay}
 use Rattle.integrity.proofs.Messages.{none-well, odd-apart}
 use Rattle.integrity.proofs.Stood.{same-sha}

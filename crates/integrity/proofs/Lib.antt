@@ -23,7 +23,6 @@ pub mod RefineAdds
 pub mod RefineEvicts
 pub mod RefineAnswers
 pub mod RefineEpochs
-pub mod Refused
 pub mod Stood
 pub mod Messages
 pub mod Opened

@@ -40,8 +40,8 @@ use Rattle.integrity.proofs.RefineAdds.{refine-add-tree, refine-add-def
 use Rattle.integrity.proofs.RefineEvicts.{refine-evict-by, refine-evict-deferred}
 use Rattle.integrity.proofs.RefineAnswers.{refine-get, refine-absent, refine-put}
 use Rattle.integrity.proofs.RefineEpochs.{refine-advance, refine-close}
-use Rattle.integrity.proofs.Refused.{Stepping, step-settles}
-use Rattle.integrity.proofs.Refused as refused
+use Rattle.rules.proofs.Refused.{Stepping, step-settles}
+use Rattle.rules.proofs.Refused as refused
 use Rattle.integrity.proofs.Messages.{AllWell, join-well, added-well, evicted-well}
 use Rattle.integrity.proofs.Stood.{mem-left, mem-right, mem-split, found-stood, Sound, values-sound, entry-sound}
 

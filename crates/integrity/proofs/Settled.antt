@@ -30,8 +30,8 @@ use Rattle.integrity.proofs.Lane.{Lane, lane-settled, start, snoc}
 use Rattle.integrity.proofs.Tallies.{no-old, is-old}
 use Rattle.integrity.proofs.Refines.{never, Stands}
 use Rattle.integrity.proofs.Opened.{opened-stands}
-use Rattle.integrity.proofs.Refused.{Stepping, step-settles}
-use Rattle.integrity.proofs.Refused as refused
+use Rattle.rules.proofs.Refused.{Stepping, step-settles}
+use Rattle.rules.proofs.Refused as refused
 use Rattle.integrity.proofs.Replay.{refine, Replay, replay}
 
 pub settled-is : (key : SetKey) {st : State} {c : List ℕ} {t : Lane} → Stands key st c t → settled st ≡ lane-settled t

@@ -145,19 +145,13 @@ fn mac_block(t: &[u32; 256], k: &[u32; aes::SCHEDULE_WORDS], m: &[u8]) -> aes::B
     aes::encrypt_block(t, k, xored(x, y))
 }
 
-fn joined(high: u32, low: u32) -> u64
-    ensures { λ r. ⌜ (r ≡ high * 2 ^ 32 + low) × (high < 2 ^ 32) × (low < 2 ^ 32) ⌝ }
-{
-    (high as u64) * 4294967296 + (low as u64)
-}
-
 // A block as a tag.
 fn tag_words(s: aes::Block) -> Tag
     ensures { λ r. ⌜ r ≡ tagWords (blockBytes s) ⌝ }
 {
     Tag {
-        t0: joined(s.w0, s.w1),
-        t1: joined(s.w2, s.w3),
+        t0: words::joined(s.w0, s.w1),
+        t1: words::joined(s.w2, s.w3),
     }
 }
 

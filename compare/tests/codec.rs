@@ -1,7 +1,8 @@
 //! The reader and the writer of entries against the second program's: random entries, whole, damaged and cut, and random bytes.
 
-use compare::Inputs;
-use second::codec::{self, Entry, Key, Side, Value};
+use compare::{key_field, seed, value_field, Inputs, UNREAD};
+use second::codec::{self, Entry, Input, Key, Side, Value};
+use thiraduan::call::Fields;
 
 fn key(inputs: &mut Inputs) -> Key {
     let len = [0, 1, 7, 8, 63, 64, 65, 128, 200, 255, 256][inputs.below(11)];
@@ -82,34 +83,70 @@ fn input(inputs: &mut Inputs) -> Vec<u8> {
     bytes
 }
 
+/// The fields of an entry; what it does not have is zero.
+fn fields(entry: &Entry) -> Fields {
+    let (s, p, epoch, time, key, value) = match *entry {
+        Entry::AddTree { s, p, key, value } => (s, p, 0, 0, key, value),
+        Entry::AddDeferred { s, epoch, time, key, value } => (s, 0, epoch, time, key, value),
+        Entry::EvictTree { s, p } | Entry::EvictTreeDeferred { s, p } => (s, p, 0, 0, Key::ROOT, Value::None),
+        Entry::EvictDeferred { s } => (s, 0, 0, 0, Key::ROOT, Value::None),
+        Entry::Get { s, key, value } | Entry::Put { s, key, value } => (s, 0, 0, 0, key, value),
+        Entry::Absent { p, key } => (0, p, 0, 0, key, Value::None),
+        Entry::Advance | Entry::Close => (0, 0, 0, 0, Key::ROOT, Value::None),
+    };
+    Fields { numbers: [entry.tag().into(), s.into(), p.into(), epoch, time], key: key_field(&key), value: value_field(&value) }
+}
+
+/// The entry of fields, if they are one: what an entry of its tag does not have is not looked at beyond its form.
+fn entry_of(fields: &Fields) -> Option<Entry> {
+    let [tag, s, p, epoch, time] = fields.numbers;
+    let (s, p) = (u16::try_from(s).ok()?, u16::try_from(p).ok()?);
+    let key = Key::decode(&mut Input::new(&fields.key))?;
+    let mut input = Input::new(&fields.value);
+    let value = Value::decode(&mut input)?;
+    if input.rest().iter().any(|&b| b != 0) {
+        return None;
+    }
+    Some(match tag {
+        1 => Entry::AddTree { s, p, key, value },
+        2 => Entry::AddDeferred { s, epoch, time, key, value },
+        3 => Entry::EvictTree { s, p },
+        4 => Entry::EvictDeferred { s },
+        5 => Entry::EvictTreeDeferred { s, p },
+        6 => Entry::Get { s, key, value },
+        7 => Entry::Absent { p, key },
+        8 => Entry::Put { s, key, value },
+        9 => Entry::Advance,
+        10 => Entry::Close,
+        _ => return None,
+    })
+}
+
 #[test]
 fn a_hundred_thousand_byte_strings() {
-    let mut inputs = Inputs(7);
+    let mut inputs = Inputs(seed(7));
     let mut met = [0u32; 4];
     for _ in 0..100_000 {
         let bytes = input(&mut inputs);
-        let mut out = vec![0xaa; inputs.below(220)];
-        let before = out.clone();
-        let read = compare::read(&bytes);
-        let (verdict, used) = compare::rewrite(&bytes, &mut out);
+        let (verdict, used, read) = compare::read(&bytes);
         match codec::read(&bytes) {
             Err((number, length)) => {
-                assert_eq!(read, (number.into(), length), "{bytes:02x?}");
-                assert_eq!((verdict, used), (number.into(), 0));
-                assert_eq!(out, before);
+                assert_eq!((verdict, used, read), (number.into(), length, UNREAD), "{bytes:02x?}");
                 met[number as usize] += 1;
             }
             Ok((entry, length)) => {
-                assert_eq!(read, (0, length), "{bytes:02x?}");
-                let mut expected = before.clone();
+                assert_eq!((verdict, used, read), (0, length, fields(&entry)), "{bytes:02x?}");
+                let mut out = vec![0xaa; inputs.below(220)];
+                let mut expected = out.clone();
+                let written = compare::write(&read, &mut out);
                 match codec::write(&entry, &mut expected) {
                     Ok(n) => {
-                        assert_eq!((verdict, used, n), (0, n, length));
+                        assert_eq!((written, n), ((0, n), length));
                         assert_eq!(out[..n], bytes[..n], "the bytes come back");
                         met[0] += 1;
                     }
                     Err(number) => {
-                        assert_eq!((verdict, used, number), (27, 0, 27));
+                        assert_eq!((written, number), ((27, 0), 27));
                         met[1] += 1;
                     }
                 }
@@ -119,4 +156,33 @@ fn a_hundred_thousand_byte_strings() {
     }
     println!("written {}, no room {}, malformed {}, short {}", met[0], met[1], met[2], met[3]);
     assert!(met.iter().all(|&n| n > 2_000), "{met:?}");
+}
+
+/// Fields that no reader gave: damaged, out of range, of other tags.
+#[test]
+fn fifty_thousand_fields() {
+    let mut inputs = Inputs(seed(13));
+    let mut met = [0u32; 3];
+    for _ in 0..50_000 {
+        let mut fields = fields(&entry(&mut inputs));
+        match inputs.below(8) {
+            0 => fields.numbers[0] = inputs.below(13) as u64,
+            1 => fields.numbers[inputs.below(3)] = [255, 256, 257, 65_535, 65_536, u64::MAX][inputs.below(6)],
+            2 => fields.key[inputs.below(34)] ^= 1 << inputs.below(8),
+            3 => fields.value[inputs.below(137)] ^= 1 << inputs.below(8),
+            4 => fields.key = key_field(&key(&mut inputs)),
+            _ => {}
+        }
+        let mut out = vec![0xaa; 150 + inputs.below(60)];
+        let mut expected = out.clone();
+        let wanted = match entry_of(&fields).map_or(Err(2), |entry| codec::write(&entry, &mut expected)) {
+            Ok(n) => (0, n),
+            Err(number) => (number.into(), 0),
+        };
+        assert_eq!(compare::write(&fields, &mut out), wanted, "{fields:02x?}");
+        assert_eq!(out, expected);
+        met[[0, 2, 27].iter().position(|&v| v == wanted.0).unwrap()] += 1;
+    }
+    println!("written {}, no entry {}, no room {}", met[0], met[1], met[2]);
+    assert!(met.iter().all(|&n| n > 500), "{met:?}");
 }

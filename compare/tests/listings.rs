@@ -2,7 +2,7 @@
 
 use compare::honest::Honest;
 use compare::host::Host;
-use compare::Inputs;
+use compare::{seed, Inputs};
 use second::verifier::{self, SLOT};
 use std::io::Write;
 use std::path::{Path, PathBuf};
@@ -49,7 +49,7 @@ fn hostile(inputs: &mut Inputs, set: &[u8; 16]) -> Vec<u8> {
 #[test]
 fn two_thousand_listings() {
     let room = room("listings");
-    let mut inputs = Inputs(9);
+    let mut inputs = Inputs(seed(9));
     let (mut met, mut settled) = ([0u32; 31], 0);
     for turn in 0..2_000 {
         let set: [u8; 16] = inputs.bytes(16).try_into().unwrap();

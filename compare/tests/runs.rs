@@ -1,7 +1,7 @@
 //! Runs of the proved library against the second program's: whole logs that a host writes, some cut or damaged, on good and bad caches.
 
 use compare::host::Host;
-use compare::Inputs;
+use compare::{seed, Inputs, UNTOLD};
 use second::verifier::{self, State, SLOT, STATE};
 
 /// A log that a host writes from fresh, watching the verifier.
@@ -18,7 +18,7 @@ fn log(inputs: &mut Inputs, set: &[u8; 16], slots: usize, entries: usize) -> Vec
 
 #[test]
 fn two_thousand_runs() {
-    let mut inputs = Inputs(8);
+    let mut inputs = Inputs(seed(8));
     let (mut settled, mut stopped) = (0, 0);
     for turn in 0..2_000 {
         let slots = [2, 3, 4, 9, 64][turn % 5];
@@ -60,7 +60,8 @@ fn no_state_no_run() {
     let (mut state, mut cache) = ([0; STATE], vec![0xaa; 4 * SLOT]);
     state[80] = 2;
     let before = state;
-    assert_eq!(compare::run(&[9, 0, 0], &mut state, &mut cache), (1, [0; 4]));
-    assert_eq!(compare::step(&[9, 0, 0], &mut state, &mut cache), (1, 0));
+    assert_eq!(compare::run(&[9, 0, 0], &mut state, &mut cache), (1, [UNTOLD; 4]));
+    assert_eq!(compare::step(&[9, 0, 0], &mut state, &mut cache), (1, [UNTOLD; 2]));
+    assert_eq!(compare::settled(&state, 1), (1, 0xaa));
     assert_eq!((state, cache), (before, vec![0xaa; 4 * SLOT]));
 }

@@ -1,6 +1,6 @@
 -- The state as 129 bytes: set key (16), clock (8), epoch (8), tally (48), 1 where an old epoch is open and else 0, its tally (48), zeros where
 -- none is open. A tally: adds (8), evicts (8), add sum (16), evict sum (16).
-use Prim.Native.Nat.{ℕ, _+_}
+use Prim.Native.Nat.{ℕ, _+_, _^_, _<_}
 use mathlib.Core.List.{List, [], _∷_, _++_}
 use mathlib.Core.Bool.{Bool, true, false}
 use lib.Dec.{eqb}
@@ -59,17 +59,37 @@ oldAt s =
 abbrev pub setAt : List ℕ → SetKey
 setAt s = record { k0 = numberAt 8 s 0; k1 = numberAt 8 s 8 }
 
+abbrev pub stateOf : List ℕ → Old → State
+stateOf s o =
+    record { set = setAt s; clock = record { 0 = numberAt 8 s 16 }; epoch = record { 0 = numberAt 8 s 24 }; tally = tallyAt s 32; old = o }
+
 abbrev pub stateWith : List ℕ → OldRead → StateRead
 stateWith s oldRead.Bad = stateRead.Bad
-stateWith s (oldRead.Good o) =
-    stateRead.Good
-    (record {
-      set = setAt s;
-      clock = record { 0 = numberAt 8 s 16 };
-      epoch = record { 0 = numberAt 8 s 24 };
-      tally = tallyAt s 32;
-      old = o;
-    })
+stateWith s (oldRead.Good o) = stateRead.Good (stateOf s o)
 
 unfoldable pub stateAt : List ℕ → StateRead
 stateAt s = pick (eqb (length s) stateLength) (stateWith s (oldAt s)) stateRead.Bad
+
+-- ---- every number fits its field, as in every state of the code
+
+pub record TagFits (g : Tag) : Type 0 where
+  pub t0 : g .t0 < 2 ^ 64
+  pub t1 : g .t1 < 2 ^ 64
+
+pub record TallyFits (t : Tally) : Type 0 where
+  pub adds : t .adds < 2 ^ 64
+  pub evicts : t .evicts < 2 ^ 64
+  pub addsum : TagFits (t .addsum)
+  pub evictsum : TagFits (t .evictsum)
+
+abbrev pub OldFits : Old → Type 0
+OldFits Closed = Unit
+OldFits (Open t) = TallyFits t
+
+pub record StateFits (st : State) : Type 0 where
+  pub k0 : st .set .k0 < 2 ^ 64
+  pub k1 : st .set .k1 < 2 ^ 64
+  pub clock : st .clock .0 < 2 ^ 64
+  pub epoch : st .epoch .0 < 2 ^ 64
+  pub tally : TallyFits (st .tally)
+  pub old : OldFits (st .old)

@@ -6,7 +6,7 @@ ghost use lib.ListN.{length, drop};
 ghost use Rattle.words.specs.Splices.{splice};
 ghost use Rattle.hash.specs.Hashes.{setBytes};
 ghost use Rattle.slot.specs.Slots.{allZero};
-ghost use Rattle.flat.specs.Flats.{stateLength, tagBytes, tallyBytes, oldBytes, frontBytes, stateBytes, tagAt, tallyAt, oldAt, stateAt};
+ghost use Rattle.flat.specs.Flats.{stateLength, tagBytes, tallyBytes, oldBytes, frontBytes, stateBytes, tagAt, tallyAt, oldAt, stateAt, TagFits, TallyFits, OldFits, StateFits};
 use cmac::Tag;
 use hash::SetKey;
 use message::Epoch;
@@ -43,6 +43,7 @@ pub enum StateRead {
     Bad,
 }
 
+// Inner.
 fn put_tag(s: &mut [u8], at: usize, g: Tag)
     requires { ⌜ at + 16 ≤ length (now s) ⌝ }
     ensures { λ _. ⌜ now (s .exit) ≡ splice (now (s .entry)) at (tagBytes g) ⌝ }
@@ -51,6 +52,7 @@ fn put_tag(s: &mut [u8], at: usize, g: Tag)
     put_word(s, at + 8, g.t1);
 }
 
+// Inner.
 fn put_tally(s: &mut [u8], at: usize, t: Tally)
     requires { ⌜ at + 48 ≤ length (now s) ⌝ }
     ensures { λ _. ⌜ now (s .exit) ≡ splice (now (s .entry)) at (tallyBytes t) ⌝ }
@@ -63,6 +65,7 @@ fn put_tally(s: &mut [u8], at: usize, t: Tally)
     put_tag(s, at + 32, e);
 }
 
+// Inner.
 fn put_old(s: &mut [u8], at: usize, o: Old)
     requires { ⌜ at + 49 ≤ length (now s) ⌝ }
     ensures { λ _. ⌜ now (s .exit) ≡ splice (now (s .entry)) at (oldBytes o) ⌝ }
@@ -80,6 +83,7 @@ fn put_old(s: &mut [u8], at: usize, o: Old)
     }
 }
 
+// Inner.
 fn put_set(s: &mut [u8], k: SetKey)
     requires { ⌜ 16 ≤ length (now s) ⌝ }
     ensures { λ _. ⌜ now (s .exit) ≡ splice (now (s .entry)) 0 (setBytes k) ⌝ }
@@ -88,6 +92,7 @@ fn put_set(s: &mut [u8], k: SetKey)
     put_word(s, 8, k.k1);
 }
 
+// Inner.
 fn put_front(s: &mut [u8], st: State)
     requires { ⌜ 32 ≤ length (now s) ⌝ }
     ensures { λ _. ⌜ now (s .exit) ≡ splice (now (s .entry)) 0 (frontBytes st) ⌝ }
@@ -110,6 +115,7 @@ pub fn write_state(s: &mut [u8], st: State)
     put_old(s, OLD, o);
 }
 
+// Inner.
 fn tag_at(s: &[u8], at: usize) -> Tag
     requires { ⌜ at + 16 ≤ length (now s) ⌝ }
     ensures { λ r. ⌜ r ≡ tagAt (now (s .entry)) at ⌝ }
@@ -120,6 +126,7 @@ fn tag_at(s: &[u8], at: usize) -> Tag
     }
 }
 
+// Inner.
 fn tally_at(s: &[u8], at: usize) -> Tally
     requires { ⌜ at + 48 ≤ length (now s) ⌝ }
     ensures { λ r. ⌜ r ≡ tallyAt (now (s .entry)) at ⌝ }
@@ -134,6 +141,7 @@ fn tally_at(s: &[u8], at: usize) -> Tally
     }
 }
 
+// Inner.
 fn old_at(s: &[u8]) -> OldRead
     requires { ⌜ length (now s) ≡ stateLength ⌝ }
     ensures { λ r. ⌜ r ≡ oldAt (now (s .entry)) ⌝ }
@@ -173,4 +181,38 @@ pub fn read_state(s: &[u8]) -> StateRead
         tally: t,
         old: o,
     })
+}
+
+// ---- every number fits its field. Nothing runs here: each contract says of any state of the code what the laws of the round trip ask of one
+// (specs/Flats.antt)
+
+fn tag_fits(g: Tag)
+    ensures { λ _. ⌜ TagFits g ⌝ }
+{}
+
+fn tally_fits(t: Tally)
+    ensures { λ _. ⌜ TallyFits t ⌝ }
+{
+    let a = t.addsum;
+    let e = t.evictsum;
+    tag_fits(a);
+    tag_fits(e);
+}
+
+fn old_fits(o: Old)
+    ensures { λ _. ⌜ OldFits o ⌝ }
+{
+    match o {
+        Old::Closed => {}
+        Old::Open(t) => tally_fits(t),
+    }
+}
+
+pub fn state_fits(st: State)
+    ensures { λ _. ⌜ StateFits st ⌝ }
+{
+    let t = st.tally;
+    let o = st.old;
+    tally_fits(t);
+    old_fits(o);
 }

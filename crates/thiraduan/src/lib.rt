@@ -1,16 +1,24 @@
 // The static library: the public calls for C and Rust, each a thin cover over a proved call.
 // A slice passes as a pointer and a length, a lent array as a pointer; the verdict is the result.
 ghost use mathlib.Core.Path.{_≡_};
+ghost use lib.ListN.{getD};
 ghost use Rattle.aes.specs.Aes.{expansion, encrypted};
 ghost use Rattle.cmac.specs.Tags.{tagOf, tagWith};
 ghost use Rattle.flat.specs.Flats.{stateBytes};
 ghost use Rattle.state.specs.States.{openDef};
-ghost use Rattle.entry.specs.Entries.{readEntry, readingVerdict, readingUsed};
 ghost use Rattle.sha256.specs.Sha256.{digestOf};
 ghost use Rattle.term.specs.Terms.{termKey, matches};
-ghost use Rattle.thiraduan.specs.Answers.{flag, rewritten, flatStep, flatRun};
+ghost use Rattle.thiraduan.specs.Answers.{flag, flatRead, flatWrite, answerEpoch, flatStep, flatRun, isSettled, flatSettled};
+use entry::EntryRead;
 use entry::Reading;
 use flat::StateRead;
+use state::State;
+use words::and;
+
+// Epochs count from 1; 0 is told where there is none.
+const NO_EPOCH: u64 = 0;
+
+const FIRST_EPOCH: u64 = 1;
 
 // 1 for yes, 0 for no.
 fn flag(yes: bool) -> u8
@@ -99,11 +107,21 @@ pub extern "C" fn thiraduan_encrypt(expanded: &[u8; 176], block: &[u8; 16], out:
     *out = b;
 }
 
-// The entry at the start of log: 0, 2 or 3, and its whole length, or 0 with 3, to used.
+// The entry at the start of log: 0, 2 or 3, and its whole length, or 0 with 3, to used. With 0 its tag, s, p, epoch and time go to numbers, its key to key,
+// and its value, and then zeros, to value; what it does not have is 0, the root key or the value none. With 2 and 3 these are untouched.
 #[no_mangle]
-pub extern "C" fn thiraduan_read(log: &[u8], used: &mut u64) -> u32
-    ensures { λ r. ⌜ r ≡ readingVerdict (readEntry (now (log .entry))) ⌝ }
-    ensures { λ _. ⌜ now (used .exit) ≡ readingUsed (readEntry (now (log .entry))) ⌝ }
+pub extern "C" fn thiraduan_read(
+    log: &[u8],
+    used: &mut u64,
+    numbers: &mut [u64; 5],
+    key: &mut [u8; 34],
+    value: &mut [u8; 137],
+) -> u32
+    ensures { λ r. ⌜ r ≡ flatRead (now (log .entry)) (now (numbers .entry)) (now (key .entry)) (now (value .entry)) .verdict ⌝ }
+    ensures { λ _. ⌜ now (used .exit) ≡ flatRead (now (log .entry)) (now (numbers .entry)) (now (key .entry)) (now (value .entry)) .used ⌝ }
+    ensures { λ _. ⌜ now (numbers .exit) ≡ flatRead (now (log .entry)) (now (numbers .entry)) (now (key .entry)) (now (value .entry)) .numbers ⌝ }
+    ensures { λ _. ⌜ now (key .exit) ≡ flatRead (now (log .entry)) (now (numbers .entry)) (now (key .entry)) (now (value .entry)) .key ⌝ }
+    ensures { λ _. ⌜ now (value .exit) ≡ flatRead (now (log .entry)) (now (numbers .entry)) (now (key .entry)) (now (value .entry)) .value ⌝ }
 {
     match entry::read(log) {
         Reading::Short => {
@@ -114,35 +132,40 @@ pub extern "C" fn thiraduan_read(log: &[u8], used: &mut u64) -> u32
             *used = n as u64;
             verdict::MALFORMED
         }
-        Reading::Good { entry: _, used: n } => {
+        Reading::Good { entry: e, used: n } => {
+            let f = fields::fields_of(e);
+            let k = f.key;
+            let x = f.value;
+            *numbers = fields::numbers_of(f);
+            fields::write_key(k, key);
+            fields::write_value(x, value);
             *used = n as u64;
             verdict::ACCEPTED
         }
     }
 }
 
-// The entry at the start of log, written again to out: 0 and its length to used; 3, 2 or 27 with nothing written and 0.
+// The entry of these fields, written to the front of out: 0 and its length to used, no other byte touched. 2 where they are no entry or it would not be
+// read back, then 27: 0 to used, and out untouched.
 #[no_mangle]
-pub extern "C" fn thiraduan_rewrite(log: &[u8], out: &mut [u8], used: &mut u64) -> u32
-    ensures { λ r. ⌜ r ≡ rewritten (now (log .entry)) (now (out .entry)) .answer .verdict ⌝ }
-    ensures { λ _. ⌜ now (out .exit) ≡ rewritten (now (log .entry)) (now (out .entry)) .bytes ⌝ }
-    ensures { λ _. ⌜ now (used .exit) ≡ rewritten (now (log .entry)) (now (out .entry)) .answer .used ⌝ }
+pub extern "C" fn thiraduan_write(
+    numbers: &[u64; 5],
+    key: &[u8; 34],
+    value: &[u8; 137],
+    out: &mut [u8],
+    used: &mut u64,
+) -> u32
+    ensures { λ r. ⌜ r ≡ flatWrite (now (numbers .entry)) (now (key .entry)) (now (value .entry)) (now (out .entry)) .answer .verdict ⌝ }
+    ensures { λ _. ⌜ now (out .exit) ≡ flatWrite (now (numbers .entry)) (now (key .entry)) (now (value .entry)) (now (out .entry)) .bytes ⌝ }
+    ensures { λ _. ⌜ now (used .exit) ≡ flatWrite (now (numbers .entry)) (now (key .entry)) (now (value .entry)) (now (out .entry)) .answer .used ⌝ }
 {
-    match entry::read(log) {
-        Reading::Short => {
-            *used = 0;
-            verdict::SHORT
-        }
-        Reading::Malformed { used: _ } => {
-            *used = 0;
-            verdict::MALFORMED
-        }
-        Reading::Good { entry: e, used: _ } => {
-            let w = writer::write(e, out);
-            *used = w.used as u64;
-            w.verdict
-        }
-    }
+    let EntryRead::Good(e) = fields::read_fields(numbers, key, value) else {
+        *used = 0;
+        return verdict::MALFORMED;
+    };
+    let w = writer::write(e, out);
+    *used = w.used as u64;
+    w.verdict
 }
 
 // Opening: a fresh state's 129 bytes to state, the root in slot 0 of the cache and zeros behind. With 28 a state of zeros, and the cache untouched.
@@ -158,37 +181,59 @@ pub extern "C" fn thiraduan_open(key: &[u8; 16], cache: &mut [u8], state: &mut [
     o.verdict
 }
 
-// One step on a state's 129 bytes: the next state's bytes to state, the bytes used to used. Bytes that are no state: 1, and nothing else is written
-// but 0 to used.
+// The first byte of a log, 0 where there is none.
+fn first_byte(log: &[u8]) -> u8
+    ensures { λ r. ⌜ r ≡ getD (now (log .entry)) 0 0 ⌝ }
+{
+    if log.len() == 0 {
+        return 0;
+    }
+    log[0]
+}
+
+// The epoch that an accepted get or absence is settled with: the one that was current at it.
+fn answer_epoch(verdict: u32, tag: u8, current: u64) -> u64
+    ensures { λ r. ⌜ r ≡ answerEpoch verdict tag current ⌝ }
+{
+    if verdict != verdict::ACCEPTED {
+        return NO_EPOCH;
+    }
+    if tag == entry::GET_TAG {
+        return current;
+    }
+    if tag == entry::ABSENT_TAG {
+        return current;
+    }
+    NO_EPOCH
+}
+
+// One step on a state's 129 bytes: the next state's bytes to state; the bytes used and the answer's epoch to told, 0 where the entry is
+// refused or no answer. Bytes that are no state: 1, and nothing is written.
 #[no_mangle]
 pub extern "C" fn thiraduan_step(
     log: &[u8],
     state: &mut [u8; 129],
     cache: &mut [u8],
-    used: &mut u64,
+    told: &mut [u64; 2],
 ) -> u32
-    ensures { λ r. ⌜ r ≡ flatStep (now (log .entry)) (now (state .entry)) (now (cache .entry)) .verdict ⌝ }
-    ensures { λ _. ⌜ now (state .exit) ≡ flatStep (now (log .entry)) (now (state .entry)) (now (cache .entry)) .state ⌝ }
-    ensures { λ _. ⌜ now (cache .exit) ≡ flatStep (now (log .entry)) (now (state .entry)) (now (cache .entry)) .cache ⌝ }
-    ensures { λ _. ⌜ now (used .exit) ≡ flatStep (now (log .entry)) (now (state .entry)) (now (cache .entry)) .used ⌝ }
+    ensures { λ r. ⌜ r ≡ flatStep (now (log .entry)) (now (state .entry)) (now (cache .entry)) (now (told .entry)) .verdict ⌝ }
+    ensures { λ _. ⌜ now (state .exit) ≡ flatStep (now (log .entry)) (now (state .entry)) (now (cache .entry)) (now (told .entry)) .state ⌝ }
+    ensures { λ _. ⌜ now (cache .exit) ≡ flatStep (now (log .entry)) (now (state .entry)) (now (cache .entry)) (now (told .entry)) .cache ⌝ }
+    ensures { λ _. ⌜ now (told .exit) ≡ flatStep (now (log .entry)) (now (state .entry)) (now (cache .entry)) (now (told .entry)) .told ⌝ }
 {
-    match flat::read_state(state) {
-        StateRead::Bad => {
-            *used = 0;
-            verdict::NOT_WELL
-        }
-        StateRead::Good(st) => {
-            let r = step::step(log, st, cache);
-            let s = r.state;
-            flat::write_state(state, s);
-            *used = r.used as u64;
-            r.verdict
-        }
-    }
+    let StateRead::Good(st) = flat::read_state(state) else {
+        return verdict::NOT_WELL;
+    };
+    let tag = first_byte(log);
+    let r = step::step(log, st, cache);
+    let s = r.state;
+    flat::write_state(state, s);
+    *told = [r.used as u64, answer_epoch(r.verdict, tag, st.epoch.0)];
+    r.verdict
 }
 
 // A run over a log on a state's 129 bytes: the end state's bytes to state; the last epoch settled, entries met, entries accepted and bytes used to told.
-// Bytes that are no state: 1, and nothing else is written but zeros to told.
+// Bytes that are no state: 1, and nothing is written.
 #[no_mangle]
 pub extern "C" fn thiraduan_run(
     log: &[u8],
@@ -196,22 +241,40 @@ pub extern "C" fn thiraduan_run(
     cache: &mut [u8],
     told: &mut [u64; 4],
 ) -> u32
-    ensures { λ r. ⌜ r ≡ flatRun (now (log .entry)) (now (state .entry)) (now (cache .entry)) .verdict ⌝ }
-    ensures { λ _. ⌜ now (state .exit) ≡ flatRun (now (log .entry)) (now (state .entry)) (now (cache .entry)) .state ⌝ }
-    ensures { λ _. ⌜ now (cache .exit) ≡ flatRun (now (log .entry)) (now (state .entry)) (now (cache .entry)) .cache ⌝ }
-    ensures { λ _. ⌜ now (told .exit) ≡ flatRun (now (log .entry)) (now (state .entry)) (now (cache .entry)) .told ⌝ }
+    ensures { λ r. ⌜ r ≡ flatRun (now (log .entry)) (now (state .entry)) (now (cache .entry)) (now (told .entry)) .verdict ⌝ }
+    ensures { λ _. ⌜ now (state .exit) ≡ flatRun (now (log .entry)) (now (state .entry)) (now (cache .entry)) (now (told .entry)) .state ⌝ }
+    ensures { λ _. ⌜ now (cache .exit) ≡ flatRun (now (log .entry)) (now (state .entry)) (now (cache .entry)) (now (told .entry)) .cache ⌝ }
+    ensures { λ _. ⌜ now (told .exit) ≡ flatRun (now (log .entry)) (now (state .entry)) (now (cache .entry)) (now (told .entry)) .told ⌝ }
 {
-    match flat::read_state(state) {
-        StateRead::Bad => {
-            *told = [0, 0, 0, 0];
-            verdict::NOT_WELL
-        }
-        StateRead::Good(st) => {
-            let r = run::run(log, st, cache);
-            let s = r.state;
-            flat::write_state(state, s);
-            *told = [r.settled, r.met, r.accepted, r.used as u64];
-            verdict::ACCEPTED
-        }
+    let StateRead::Good(st) = flat::read_state(state) else {
+        return verdict::NOT_WELL;
+    };
+    let r = run::run(log, st, cache);
+    let s = r.state;
+    flat::write_state(state, s);
+    *told = [r.settled, r.met, r.accepted, r.used as u64];
+    verdict::ACCEPTED
+}
+
+fn is_settled(st: State, epoch: u64) -> bool
+    ensures { λ r. ⌜ r ≡ isSettled st epoch ⌝ }
+{
+    let last = st.settled();
+    and(FIRST_EPOCH <= epoch, epoch <= last)
+}
+
+// Whether an epoch is settled in a state's 129 bytes, to yes. Bytes that are no state, or one that is not well formed: 1, and nothing is written.
+#[no_mangle]
+pub extern "C" fn thiraduan_settled(state: &[u8; 129], epoch: u64, yes: &mut u8) -> u32
+    ensures { λ r. ⌜ r ≡ flatSettled (now (state .entry)) epoch (now (yes .entry)) .verdict ⌝ }
+    ensures { λ _. ⌜ now (yes .exit) ≡ flatSettled (now (state .entry)) epoch (now (yes .entry)) .yes ⌝ }
+{
+    let StateRead::Good(st) = flat::read_state(state) else {
+        return verdict::NOT_WELL;
+    };
+    if st.well() {
+        *yes = flag(is_settled(st, epoch));
+        return verdict::ACCEPTED;
     }
+    verdict::NOT_WELL
 }

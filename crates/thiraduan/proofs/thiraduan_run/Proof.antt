@@ -1,7 +1,7 @@
-use Rattle.thiraduan.specs.Answers.{flatRun}
-use Rattle.run.specs.Runs.{Run}
-use Rattle.flat.specs.Flats.{stateBytes}
 use mathlib.Core.List.{[], _∷_}
+use Rattle.flat.specs.Flats.{stateBytes}
+use Rattle.run.specs.Runs.{Run}
+use Rattle.thiraduan.specs.Answers.{flatRun}
 use mathlib.Core.Path.{refl, sym, ap, _∙_}
 use borrow.Author.Needs.{needs}
 use Rattle.thiraduan.proofs.thiraduan_run.Statement.{statement}
@@ -10,21 +10,21 @@ use Rattle.thiraduan.proofs.thiraduan_run.Tie as tie
 read-state-requires : tie.Need-read-state-requires
 read-state-requires c κs = search needs
 
+enum-known-st : tie.Need-enum-known-st
+enum-known-st c = search needs
+
 enum-told : tie.Need-enum-told
 enum-told c = search needs
 
-enum-known-st : tie.Need-enum-known-st
-enum-known-st c = search needs
+returns : tie.Need-returns
+unfolding flatRun
+returns c = simp (sym (c .before .before .read-state .ensures) ∙ c .enum-told .given .1) (refl, (refl, (refl, refl)))
 
 run-requires : tie.Need-run-requires
 run-requires c κs = search needs
 
 write-state-requires : tie.Need-write-state-requires
 write-state-requires c κs = search needs
-
-returns : tie.Need-returns
-unfolding flatRun
-returns c = simp (sym (c .before .before .before .read-state .ensures) ∙ c .before .enum-told .given .1) (refl, (refl, (refl, refl)))
 
 same-length : tie.Need-same-length
 same-length c = search needs
@@ -38,10 +38,10 @@ thiraduan-run-spec =
     tie.close
     (tie.spec
     read-state-requires
-    enum-told
     enum-known-st
+    enum-told
+    returns
     run-requires
     write-state-requires
-    returns
     same-length
     returns-2)

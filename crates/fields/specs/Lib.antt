@@ -1,0 +1,2 @@
+-- An entry as fields of a fixed form, for callers outside.
+pub mod Forms

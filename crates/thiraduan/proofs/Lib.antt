@@ -1,0 +1,2 @@
+-- Laws of the exported calls.
+pub mod Laws

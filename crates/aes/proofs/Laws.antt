@@ -1,25 +1,27 @@
 -- Laws of the field, of words of four bytes, of the table, of rounds and of the key schedule. Assumes nothing.
 use mathlib.Core.Path.{_≡_, refl, ap, ap₂, sym, _∙_, subst}
 use mathlib.Core.Bool.{Bool}
-use mathlib.Core.List.{List, [], _∷_, _++_}
+use mathlib.Core.List.{List, [], _∷_, _++_, append-assoc, append-nil}
 use Prim.Native.Nat.{ℕ, zero, suc, _+_, _-_, _*_, _/_, _%_, _^_, _≤_, _<_, zero-le}
 use native.Mathlib.Decide.{ℕ-discrete}
-use native.Mathlib.Nat.{mod-lt, pow-suc, mul-comm}
+use native.Mathlib.Nat.{mod-lt, pow-suc, mul-comm, add-zero}
 use native.Mathlib.Numerals.{add-one}
 use native.Mathlib.Omega.{arith}
 use borrow.Author.Tests.{eq-eqb, ne-eqb}
 use lib.Arith.{lt-of-le-ne, digits-lt}
-use lib.Bits.{bitXor, bitOr, xor-lt, xor-block, or-shifted-r}
+use lib.Bits.{bitXor, bitOr, xor-lt, xor-block, xor-zero-r, xor-comm, or-zero-r, or-shifted-r}
 use lib.Dec.{lit<}
-use lib.ListN.{length, getD, take, set, length-append, List·getD-map, List·getD-append}
-use lib.Seq.{take-suc-set, getD-take, getD-at}
-use Rattle.words.proofs.Laws.{bytes-length, take-splice}
+use lib.ListN.{length, getD, take, length-append, drop-of-length-le, List·getD-append}
+use lib.Seq.{getD-at}
+use Rattle.words.proofs.Laws.{bytes-length, number-front, number-at, take-splice, splice-four}
 use Rattle.words.specs.Choice.{pick}
 use Rattle.words.specs.Numbers.{numberAt, bytesOf}
 use Rattle.words.specs.Splices.{splice}
-use Rattle.aes.specs.Aes.{pack, byte0, byte1, byte2, byte3, state, subWord, shifted, mixBytes, mixColumn, addRoundKey, round, rounds, lastRound, cipher, wordOf, rotWord, rcon, nextWord, schedule, keyWords, blockAt, blockBytes, encrypted, column, lastColumn, spread, table}
+use Rattle.aes.specs.Aes.{pack, byte0, byte1, byte2, byte3, state, subWord, subBytes, shifted, shiftRows, mixBytes, mixColumn, mixColumns, addRoundKey, round, rounds, lastRound, cipher, wordOf, rotWord, rcon, nextWord, schedule, keyWords, blockAt, blockBytes, encrypted, column, lastColumn, spread, rotr, push, nextOf}
 use Rattle.aes.specs.Field.{xtime, three, bit, affineBits, affine, inverse, valuesOf, sbox, sub}
+use Rattle.aes.specs.Vectors.{figure, figure7}
 use Rattle.aes.specs.declared.Block.{Block}
+use Rattle.aes.proofs.Xor.{xor-assoc}
 
 -- ---- values of a function in a list
 
@@ -98,27 +100,30 @@ pack-xor a b c d e f g h hb hc hd hf hg hh =
     ∙ ap (λ (v : ℕ). v * 2 ^ 8 + bitXor d h)
     (xor-block 8 (a * 2 ^ 8 + b) (e * 2 ^ 8 + f) c g hc hg ∙ ap (λ (v : ℕ). v * 2 ^ 8 + bitXor c g) (xor-block 8 a e b f hb hf))
 
--- a rotation to the right, as the code writes it
-abbrev pub rotr : ℕ → ℕ → ℕ
-rotr n x = bitOr (x / 2 ^ n) ((x * 2 ^ (32 - n)) % 2 ^ 32)
+-- turned by no bits, a word stays
+turn-none : (v : ℕ) → v < 2 ^ 32 → rotr 0 v ≡ v
+turn-none v h =
+    let e : v / 2 ^ 0 ≡ v = omega arith in
+    let f : v * 2 ^ 31 % 2 ^ 32 * 2 % 2 ^ 32 ≡ 0 = omega arith in
+    ap₂ bitOr e f ∙ or-zero-r v
 
 module _ (a b c d : ℕ) (ha : a < 256) (hb : b < 256) (hc : c < 256) (hd : d < 256) where
   rot8 : rotr 8 (pack a b c d) ≡ pack d a b c
   rot8 =
       let e : pack a b c d / 2 ^ 8 ≡ (a * 2 ^ 8 + b) * 2 ^ 8 + c = omega arith in
-      let f : (pack a b c d * 2 ^ 24) % 2 ^ 32 ≡ d * 2 ^ 24 = omega arith in
+      let f : pack a b c d * 2 ^ 23 % 2 ^ 32 * 2 % 2 ^ 32 ≡ d * 2 ^ 24 = omega arith in
       ap₂ bitOr e f ∙ or-shifted-r d 24 ((a * 2 ^ 8 + b) * 2 ^ 8 + c) (omega arith) ∙ omega arith
 
   rot16 : rotr 16 (pack a b c d) ≡ pack c d a b
   rot16 =
       let e : pack a b c d / 2 ^ 16 ≡ a * 2 ^ 8 + b = omega arith in
-      let f : (pack a b c d * 2 ^ 16) % 2 ^ 32 ≡ (c * 2 ^ 8 + d) * 2 ^ 16 = omega arith in
+      let f : pack a b c d * 2 ^ 15 % 2 ^ 32 * 2 % 2 ^ 32 ≡ (c * 2 ^ 8 + d) * 2 ^ 16 = omega arith in
       ap₂ bitOr e f ∙ or-shifted-r (c * 2 ^ 8 + d) 16 (a * 2 ^ 8 + b) (omega arith) ∙ omega arith
 
   rot24 : rotr 24 (pack a b c d) ≡ pack b c d a
   rot24 =
       let e : pack a b c d / 2 ^ 24 ≡ a = omega arith in
-      let f : (pack a b c d * 2 ^ 8) % 2 ^ 32 ≡ ((b * 2 ^ 8 + c) * 2 ^ 8 + d) * 2 ^ 8 = omega arith in
+      let f : pack a b c d * 2 ^ 7 % 2 ^ 32 * 2 % 2 ^ 32 ≡ ((b * 2 ^ 8 + c) * 2 ^ 8 + d) * 2 ^ 8 = omega arith in
       ap₂ bitOr e f ∙ or-shifted-r ((b * 2 ^ 8 + c) * 2 ^ 8 + d) 8 a (omega arith)
 
   pack0 : byte0 (pack a b c d) ≡ a
@@ -173,32 +178,152 @@ module _ (w x y z : ℕ) where
   unfolding lastColumn
   last-is v k e = ap (λ (u : ℕ). bitXor u k) (e ∙ sym shift-sub)
 
--- ---- the table
+-- ---- the tables
 
--- an entry, and its second byte
-entry : (t : List ℕ) (b : ℕ) → t ≡ table → getD t b 0 ≡ spread (sub b)
-unfolding table sub spread xtime
-entry t b e = ap (λ (l : List ℕ). getD l b 0) e ∙ List·getD-map spread sbox b 0
+-- a byte whose highest bit is turned twice
+pub turned-back : (b : ℕ) → bitXor (bitXor b 128) 128 ≡ b
+turned-back b = xor-assoc b 128 128 ∙ xor-zero-r b
 
-second : (t : List ℕ) (b : ℕ) → t ≡ table → getD t b 0 / 256 % 256 ≡ sub b
+-- the substitution as figure 7 of FIPS 197 has it, which computes at once
+pub sub-figure : (b : ℕ) → getD figure b 0 ≡ sub b
+unfolding sub
+sub-figure b = ap (λ (l : List ℕ). getD l b 0) (sym figure7)
+
+-- an arm of the tables, at n: what the figure has there, for the byte that has its highest bit turned to n
+pub sub-arm : (b n : ℕ) → bitXor b 128 ≡ n → getD figure (bitXor n 128) 0 ≡ sub b
+sub-arm b n e = ap (λ (x : ℕ). getD figure (bitXor x 128) 0) (sym e) ∙ ap (λ (x : ℕ). getD figure x 0) (turned-back b) ∙ sub-figure b
+
+pub spread-arm : (b n : ℕ) → bitXor b 128 ≡ n → spread (getD figure (bitXor n 128) 0) ≡ spread (sub b)
+spread-arm b n e = ap spread (sub-arm b n e)
+
+-- the last arm of a match on a number: none of 0 .. n - 1 is x, so n is at most x
+abbrev Rest : ℕ → ℕ → Type 0
+Rest x zero = Unit
+Rest x (suc k) = Rest x k × (x ≡ k → ⊥)
+
+pub past : (x n : ℕ) → Rest x n → n ≤ x
+past x zero r = zero-le
+past x (suc k) r = lt-of-le-ne (past x k (r .0)) (λ e. r .1 (sym e))
+
+-- and 255 is all that is left of a byte
+pub last-arm : (b : ℕ) → b < 256 → Rest (bitXor b 128) 255 → bitXor b 128 ≡ 255
+last-arm b h r = let p = past (bitXor b 128) 255 r in let q : bitXor b 128 < 256 = xlt h (lit< tt) in last (bitXor b 128) p q
+  where
+    last : (x : ℕ) → 255 ≤ x → x < 256 → x ≡ 255
+    last x k l = omega arith
+
+-- ---- a column, row after row
+
+spread-lt : (b : ℕ) → b < 256 → spread b < 2 ^ 32
 unfolding spread
-second t b e =
-    ap byte2 (entry t b e) ∙ pack2 (xtime (sub b)) (sub b) (sub b) (three (sub b)) (xtime-lt (sub b) (sub-lt b)) (sub-lt b) (sub-lt b) (three-lt (sub b) (sub-lt b))
+spread-lt b h = let x = xtime-lt b h in let t = three-lt b h in packed (xtime b) b b (three b) x h h t
+  where
+    packed : (p q r t : ℕ) → p < 256 → q < 256 → r < 256 → t < 256 → pack p q r t < 2 ^ 32
+    packed p q r t hp hq hr ht = omega arith
 
-module _ (t : List ℕ) (w x y z : ℕ) (e : t ≡ table) where
-  pub mixed-is : (k : ℕ) → bitXor (bitXor (bitXor (bitXor (getD t (byte0 w) 0) (rotr 8 (getD t (byte1 x) 0))) (rotr 16 (getD t (byte2 y) 0))) (rotr 24 (getD t (byte3 z) 0))) k ≡ column w x y z k
-  unfolding column
-  mixed-is k =
-      ap (λ (v : ℕ). bitXor v k)
-      (ap4 (λ (p q r s : ℕ). bitXor (bitXor (bitXor p (rotr 8 q)) (rotr 16 r)) (rotr 24 s)) (entry t (byte0 w) e) (entry t (byte1 x) e) (entry t (byte2 y) e) (entry t (byte3 z) e)
-      ∙ mix-law (sub (byte0 w)) (sub (byte1 x)) (sub (byte2 y)) (sub (byte3 z)) (sub-lt (byte0 w)) (sub-lt (byte1 x)) (sub-lt (byte2 y)) (sub-lt (byte3 z))
-      ∙ sym (mix-pack (sub (byte0 w)) (sub (byte1 x)) (sub (byte2 y)) (sub (byte3 z)) (sub-lt (byte0 w)) (sub-lt (byte1 x)) (sub-lt (byte2 y)) (sub-lt (byte3 z)))
+-- two sums of a round's terms, turn about: after j rows they are at j and at j + 1
+unfoldable pub sums : ℕ → List ℕ → ℕ → ℕ
+sums k m zero = k
+sums k m (suc zero) = 0
+sums k m (suc (suc j)) = bitXor (sums k m j) (rotr (8 * j) (spread (sub (getD m j 0))))
+
+pub sums-more : (k : ℕ) (m : List ℕ) (j e v n : ℕ) → e ≡ sums k m j → v ≡ spread (sub (getD m j 0)) → n ≡ rotr (8 * j) v → bitXor e n ≡ sums k m (j + 1 + 1)
+unfolding sums
+sums-more k m j e v n p q r = ap₂ bitXor p (r ∙ ap (rotr (8 * j)) q) ∙ sym (ap (sums k m) (ap (λ (i : ℕ). i + 1) (add-one j) ∙ add-one (suc j)))
+
+-- the order of the sums
+gathered : (k a b c d : ℕ) → bitXor (bitXor (bitXor k a) c) (bitXor b d) ≡ bitXor (bitXor (bitXor (bitXor a b) c) d) k
+gathered k a b c d =
+    ap (λ (x : ℕ). bitXor x (bitXor b d)) (xor-assoc k a c)
+    ∙ xor-assoc k (bitXor a c) (bitXor b d)
+    ∙ xor-comm k (bitXor (bitXor a c) (bitXor b d))
+    ∙ ap (λ (x : ℕ). bitXor x k)
+    (sym (xor-assoc (bitXor a c) b d) ∙ ap (λ (x : ℕ). bitXor x d) (xor-assoc a c b ∙ ap (bitXor a) (xor-comm c b) ∙ sym (xor-assoc a b c)))
+
+module _ (w x y z : ℕ) where
+  abbrev taken : List ℕ
+  taken = byte0 w ∷ byte1 x ∷ byte2 y ∷ byte3 z ∷ []
+
+  mixed-sums : (k : ℕ) → bitXor (sums k taken 4) (sums k taken 5) ≡ column w x y z k
+  unfolding column sums
+  mixed-sums k =
+      let p = sub-lt (byte0 w) in
+      let q = sub-lt (byte1 x) in
+      let r = sub-lt (byte2 y) in
+      let s = sub-lt (byte3 z) in
+      gathered k (rotr 0 (spread (sub (byte0 w)))) (rotr 8 (spread (sub (byte1 x)))) (rotr 16 (spread (sub (byte2 y)))) (rotr 24 (spread (sub (byte3 z))))
+      ∙ ap (λ (v : ℕ). bitXor v k)
+      (ap (λ (v : ℕ). bitXor (bitXor (bitXor v (rotr 8 (spread (sub (byte1 x))))) (rotr 16 (spread (sub (byte2 y))))) (rotr 24 (spread (sub (byte3 z))))) (turn-none (spread (sub (byte0 w))) (spread-lt (sub (byte0 w)) p))
+      ∙ mix-law (sub (byte0 w)) (sub (byte1 x)) (sub (byte2 y)) (sub (byte3 z)) p q r s
+      ∙ sym (mix-pack (sub (byte0 w)) (sub (byte1 x)) (sub (byte2 y)) (sub (byte3 z)) p q r s)
       ∙ ap mixColumn (sym (shift-sub w x y z)))
 
-  pub substituted-is : pack (getD t (byte0 w) 0 / 256 % 256) (getD t (byte1 x) 0 / 256 % 256) (getD t (byte2 y) 0 / 256 % 256) (getD t (byte3 z) 0 / 256 % 256) ≡ pack (sub (byte0 w)) (sub (byte1 x)) (sub (byte2 y)) (sub (byte3 z))
-  substituted-is = ap4 pack (second t (byte0 w) e) (second t (byte1 x) e) (second t (byte2 y) e) (second t (byte3 z) e)
+  pub mixed-is : (k : ℕ) (m : List ℕ) (j e f : ℕ) → m ≡ taken → j ≡ 4 → e ≡ sums k m j → f ≡ sums k m (j + 1) → bitXor e f ≡ column w x y z k
+  mixed-is k m j e f em ej p q =
+      ap₂ bitXor (p ∙ ap₂ (λ (l : List ℕ) (i : ℕ). sums k l i) em ej) (q ∙ ap₂ (λ (l : List ℕ) (i : ℕ). sums k l (i + 1)) em ej) ∙ mixed-sums k
+
+-- the bytes of a word, substituted one after another
+unfoldable pub subs : List ℕ → ℕ → ℕ
+subs m zero = 0
+subs m (suc j) = subs m j % 2 ^ 24 * 256 + sub (getD m j 0)
+
+pub subs-more : (m : List ℕ) (j v s : ℕ) → v ≡ subs m j → s ≡ sub (getD m j 0) → v % 2 ^ 24 * 256 + s ≡ subs m (j + 1)
+unfolding subs
+subs-more m j v s p q = ap₂ (λ (x y : ℕ). x % 2 ^ 24 * 256 + y) p q ∙ sym (ap (subs m) (add-one j))
+
+pub subs-fits : (m : List ℕ) (j v s : ℕ) → s ≡ sub (getD m j 0) → v % 2 ^ 24 * 256 + s < 2 ^ 32
+subs-fits m j v s q = let h = sub-lt (getD m j 0) in rw q (omega (arith, h))
+
+module _ (w x y z : ℕ) where
+  subs-four : subs (taken w x y z) 4 ≡ pack (sub (byte0 w)) (sub (byte1 x)) (sub (byte2 y)) (sub (byte3 z))
+  unfolding subs
+  subs-four = four (sub (byte0 w)) (sub (byte1 x)) (sub (byte2 y)) (sub (byte3 z)) (sub-lt (byte0 w)) (sub-lt (byte1 x)) (sub-lt (byte2 y)) (sub-lt (byte3 z))
+    where
+      four : (p q r s : ℕ) → p < 256 → q < 256 → r < 256 → s < 256
+          → (((0 % 2 ^ 24 * 256 + p) % 2 ^ 24 * 256 + q) % 2 ^ 24 * 256 + r) % 2 ^ 24 * 256 + s ≡ pack p q r s
+      four p q r s hp hq hr hs = omega arith
+
+  pub substituted-is : (m : List ℕ) (j v : ℕ) → m ≡ taken w x y z → j ≡ 4 → v ≡ subs m j → v ≡ pack (sub (byte0 w)) (sub (byte1 x)) (sub (byte2 y)) (sub (byte3 z))
+  substituted-is m j v em ej p = p ∙ ap₂ subs em ej ∙ subs-four
 
 -- ---- rounds
+
+-- word i of an expanded key
+pub key-word : (b : List ℕ) (i : ℕ) → i < 44 → wordOf b i ≡ getD (keyWords b) i 0
+unfolding keyWords
+key-word b i h = sym (values-at (wordOf b) 44 i h)
+
+pub key-xor : (b : List ℕ) (i s u : ℕ) → i < 44 → u ≡ wordOf b i → bitXor s u ≡ bitXor s (getD (keyWords b) i 0)
+key-xor b i s u h e = ap (bitXor s) (e ∙ key-word b i h)
+
+pub last-word : (b : List ℕ) (i w x y z u r : ℕ) → i < 44 → u ≡ wordOf b i → r ≡ lastColumn w x y z u → r ≡ lastColumn w x y z (getD (keyWords b) i 0)
+last-word b i w x y z u r h e f = f ∙ ap (lastColumn w x y z) (e ∙ key-word b i h)
+
+-- the columns of s, turned j times; and the columns of round i that are made, behind what is left of s
+unfoldable pub turns : Block → ℕ → Block
+turns s zero = s
+turns s (suc j) = push (turns s j) (turns s j .w0)
+
+unfoldable pub made : List ℕ → ℕ → Block → ℕ → Block
+made w i s zero = s
+made w i s (suc j) = push (made w i s j) (column (turns s j .w0) (turns s j .w1) (turns s j .w2) (turns s j .w3) (getD w (4 * i + j) 0))
+
+pub turns-more : (s a r : Block) (j : ℕ) → a ≡ turns s j → r ≡ push a (a .w0) → r ≡ turns s (j + 1)
+unfolding turns
+turns-more s a r j e p = p ∙ ap (λ (x : Block). push x (x .w0)) e ∙ sym (ap (turns s) (add-one j))
+
+pub made-more : (l : List ℕ) (i j u v : ℕ) (s a b r : Block) → 4 * i + j < 44 → a ≡ turns s j → b ≡ made (keyWords l) i s j → u ≡ wordOf l (4 * i + j)
+    → v ≡ column (a .w0) (a .w1) (a .w2) (a .w3) u → r ≡ push b v → r ≡ made (keyWords l) i s (j + 1)
+unfolding made
+made-more l i j u v s a b r h ea eb eu ev er =
+    er ∙ ap₂ push eb (ev ∙ ap₂ (λ (x : Block) (y : ℕ). column (x .w0) (x .w1) (x .w2) (x .w3) y) ea (eu ∙ key-word l (4 * i + j) h)) ∙ sym (ap (made (keyWords l) i s) (add-one j))
+
+four-made : (w : List ℕ) (i : ℕ) (s : Block) → made w i s 4 ≡ round w i s
+unfolding made turns round addRoundKey mixColumns shiftRows subBytes column
+four-made w i s = ap (λ (n : ℕ). state (column (s .w0) (s .w1) (s .w2) (s .w3) (getD w n 0)) (column (s .w1) (s .w2) (s .w3) (s .w0) (getD w (4 * i + 1) 0)) (column (s .w2) (s .w3) (s .w0) (s .w1) (getD w (4 * i + 2) 0)) (column (s .w3) (s .w0) (s .w1) (s .w2) (getD w (4 * i + 3) 0))) (add-zero (4 * i))
+
+pub round-made : (w : List ℕ) (i j : ℕ) (s b : Block) → j ≡ 4 → b ≡ made w i s j → b ≡ round w i s
+round-made w i j s b ej eb = eb ∙ ap (made w i s) ej ∙ four-made w i s
 
 pub more-rounds : (w : List ℕ) (s x : Block) (n : ℕ) → x ≡ rounds w n s → round w (n + 1) x ≡ rounds w (n + 1) s
 unfolding rounds
@@ -224,64 +349,92 @@ rotated-is v h =
     low e1 e2 e3 e4 = omega arith
 
 -- a word of the schedule, with a substitution and without
-module _ (l : List ℕ) (j u v : ℕ) (eu : u ≡ wordOf l j) (ev : v ≡ wordOf l (j + 3)) where
+module _ (u v j : ℕ) where
   abbrev chosen : Bool → ℕ
-  chosen b = bitXor (wordOf l j) (pick b (bitXor (subWord (rotWord (wordOf l (j + 3)))) (rcon (j / 4))) (wordOf l (j + 3)))
+  chosen b = bitXor u (pick b (bitXor (subWord (rotWord v)) (rcon (j / 4))) v)
 
   pub next-sub : (w s r : ℕ) → j % 4 ≡ 0 → w ≡ rotWord v → s ≡ pack (sub (byte0 w)) (sub (byte1 w)) (sub (byte2 w)) (sub (byte3 w)) → r ≡ rcon (j / 4)
-      → bitXor u (bitXor s r) ≡ nextWord l j
-  unfolding nextWord subWord
-  next-sub w s r h ew es er =
-      ap₂ bitXor eu (ap₂ bitXor (es ∙ ap subWord (ew ∙ ap rotWord ev)) er) ∙ sym (ap chosen (eq-eqb (j % 4) 0 h))
+      → bitXor u (bitXor s r) ≡ nextOf u v j
+  unfolding nextOf subWord
+  next-sub w s r h ew es er = ap (bitXor u) (ap₂ bitXor (es ∙ ap subWord ew) er) ∙ sym (ap chosen (eq-eqb (j % 4) 0 h))
 
-  pub next-plain : (j % 4 ≡ 0 → ⊥) → bitXor u v ≡ nextWord l j
-  unfolding nextWord
-  next-plain h = ap₂ bitXor eu ev ∙ sym (ap chosen (ne-eqb (j % 4) 0 h))
+  pub next-plain : (j % 4 ≡ 0 → ⊥) → bitXor u v ≡ nextOf u v j
+  unfolding nextOf
+  next-plain h = sym (ap chosen (ne-eqb (j % 4) 0 h))
 
--- the last arm of a match on a number: none of 0 .. n - 1 is x, so n is at most x
-abbrev Rest : ℕ → ℕ → Type 0
-Rest x zero = Unit
-Rest x (suc k) = Rest x k × (x ≡ k → ⊥)
+-- four words of the schedule, from word n on
+abbrev pub window : List ℕ → ℕ → Block
+window l n = state (wordOf l n) (wordOf l (n + 1)) (wordOf l (n + 2)) (wordOf l (n + 3))
 
-pub past : (x n : ℕ) → Rest x n → n ≤ x
-past x zero r = zero-le
-past x (suc k) r = lt-of-le-ne (past x k (r .0)) (λ e. r .1 (sym e))
+pub next-window : (l : List ℕ) (s : Block) (j v : ℕ) → s ≡ window l j → v ≡ nextOf (s .w0) (s .w3) j → v ≡ nextWord l j
+unfolding nextWord nextOf
+next-window l s j v e f = f ∙ ap (λ (x : Block). nextOf (x .w0) (x .w3) j) e
 
--- a number is read from the front alone
-number-take : (n : ℕ) (l : List ℕ) (m at : ℕ) → at + n ≤ m → numberAt n (take m l) at ≡ numberAt n l at
-unfolding numberAt
-number-take zero l m at h = refl
-number-take (suc n) l m at h = rw (number-take n l m at (omega arith), getD-take m l (at + n) 0 (omega arith))
+schedule-length : (key : List ℕ) (n : ℕ) → length key ≡ 16 → length (schedule key n) ≡ 16 + 4 * n
+unfolding schedule
+schedule-length key zero e = e
+schedule-length key (suc n) e =
+    let p = schedule-length key n e in
+    let q = bytes-length 4 (nextWord (schedule key n) n) in
+    length-append (schedule key n) (bytesOf 4 (nextWord (schedule key n) n)) ∙ ap₂ _+_ p q ∙ omega arith
 
-next-take : (l : List ℕ) (j : ℕ) → nextWord (take (16 + 4 * j) l) j ≡ nextWord l j
-unfolding nextWord
-next-take l j = rw (number-take 4 l (16 + 4 * j) (4 * (j + 3)) (omega arith), number-take 4 l (16 + 4 * j) (4 * j) (omega arith))
+-- one word more, and the four words from the next on
+word-before : (l : List ℕ) (j i v : ℕ) → length l ≡ 16 + 4 * j → i ≤ j + 3 → wordOf (l ++ bytesOf 4 v) i ≡ wordOf l i
+word-before l j i v e h = number-front 4 l (bytesOf 4 v) (4 * i) (rw e (omega arith))
+
+word-put : (l : List ℕ) (j i v : ℕ) → length l ≡ 16 + 4 * j → i ≡ j + 4 → v < 2 ^ 32 → wordOf (l ++ bytesOf 4 v) i ≡ v
+word-put l j i v e f h =
+    ap (λ (x : List ℕ). numberAt 4 (l ++ x) (4 * i)) (sym (append-nil (bytesOf 4 v))) ∙ number-at 4 v (4 * i) l [] (e ∙ omega (arith, f)) h
+
+pub window-more : (key : List ℕ) (s r : Block) (j v : ℕ) → length key ≡ 16 → v < 2 ^ 32 → s ≡ window (schedule key j) j → v ≡ nextWord (schedule key j) j → r ≡ push s v
+    → r ≡ window (schedule key (j + 1)) (j + 1)
+unfolding schedule
+window-more key s r j v e h es ev er =
+    let l = schedule key j in
+    let p : length l ≡ 16 + 4 * j = schedule-length key j e in
+    let q : schedule key (j + 1) ≡ l ++ bytesOf 4 v = ap (schedule key) (add-one j) ∙ ap (λ (x : ℕ). l ++ bytesOf 4 x) (sym ev) in
+    er ∙ ap (λ (x : Block). push x v) es
+    ∙ same
+    (sym (word-before l j (j + 1) v p (omega arith)))
+    (sym (word-before l j (j + 1 + 1) v p (omega arith) ∙ ap (wordOf l) (omega arith)))
+    (sym (word-before l j (j + 1 + 2) v p (omega arith) ∙ ap (wordOf l) (omega arith)))
+    (sym (word-put l j (j + 1 + 3) v p (omega arith) h))
+    ∙ ap (λ (x : List ℕ). window x (j + 1)) (sym q)
 
 -- the key's own bytes, put at the front
 pub schedule-none : (d m key : List ℕ) → length key ≡ 16 → m ≡ splice d 0 key → take (16 + 4 * 0) m ≡ schedule key 0
 unfolding schedule
 schedule-none d m key e p = ap (take 16) p ∙ take-splice d key 0 16 e zero-le
 
-pub schedule-more : (key l m : List ℕ) (j v : ℕ) → 16 + 4 * j + 4 ≤ length l → take (16 + 4 * j) l ≡ schedule key j → v ≡ nextWord l j → m ≡ splice l (16 + 4 * j) (bytesOf 4 v)
+pub schedule-more : (key l m : List ℕ) (j v : ℕ) → 16 + 4 * j + 4 ≤ length l → take (16 + 4 * j) l ≡ schedule key j → v ≡ nextWord (schedule key j) j → m ≡ splice l (16 + 4 * j) (bytesOf 4 v)
     → take (16 + 4 * (j + 1)) m ≡ schedule key (j + 1)
 unfolding schedule
 schedule-more key l m j v h e f g =
     let p : 16 + 4 * (j + 1) ≡ 16 + 4 * j + 4 = omega arith in
     ap₂ (λ (n : ℕ) (x : List ℕ). take n x) p g ∙ take-splice l (bytesOf 4 v) (16 + 4 * j) 4 (bytes-length 4 v) (omega arith)
-    ∙ ap₂ (λ (x : List ℕ) (y : ℕ). x ++ bytesOf 4 y) e (f ∙ sym (next-take l j) ∙ ap (λ (x : List ℕ). nextWord x j) e)
+    ∙ ap₂ (λ (x : List ℕ) (y : ℕ). x ++ bytesOf 4 y) e f
     ∙ sym (ap (schedule key) (add-one j))
-
--- ---- values stored one after another
-
-stored : (w : List ℕ) (i v : ℕ) → i < length w → take (i + 1) (set w i v) ≡ take i w ++ v ∷ []
-stored w i v h = rw (add-one, take-suc-set)
-
-pub values-more : (f : ℕ → ℕ) (w : List ℕ) (i v : ℕ) → i < length w → take i w ≡ valuesOf f i → v ≡ f i → take (i + 1) (set w i v) ≡ valuesOf f (i + 1)
-unfolding valuesOf
-values-more f w i v h e g = stored w i v h ∙ ap₂ (λ (x : List ℕ) (y : ℕ). x ++ y ∷ []) e g ∙ sym (ap (valuesOf f) (add-one i))
 
 -- ---- one block, from bytes to bytes
 
-pub encrypted-is : (bytes block w r : List ℕ) (s e : Block) → w ≡ keyWords bytes → s ≡ blockAt block 0 → e ≡ cipher w s → r ≡ blockBytes e → r ≡ encrypted bytes block
+pub encrypted-is : (bytes block r : List ℕ) (s e : Block) → s ≡ blockAt block 0 → e ≡ cipher (keyWords bytes) s → r ≡ blockBytes e → r ≡ encrypted bytes block
 unfolding encrypted
-encrypted-is bytes block w r s e ew es ee er = er ∙ ap blockBytes (ee ∙ ap₂ cipher ew es)
+encrypted-is bytes block r s e es ee er = er ∙ ap blockBytes (ee ∙ ap (cipher (keyWords bytes)) es)
+
+-- four words, each put behind the one before
+-- as many bytes as there are put in the place of all
+put-all : (d v : List ℕ) → length d ≡ length v → splice d 0 v ≡ v
+unfolding splice
+put-all d v e = ap (λ (x : List ℕ). v ++ x) (drop-of-length-le d {i = 0 + length v} (omega (arith, e))) ∙ append-nil v
+
+pub block-put : (s : Block) (d m n o r : List ℕ) → length d ≡ 16 → m ≡ splice d 0 (bytesOf 4 (s .w0)) → n ≡ splice m 4 (bytesOf 4 (s .w1)) → o ≡ splice n 8 (bytesOf 4 (s .w2))
+    → r ≡ splice o 12 (bytesOf 4 (s .w3)) → r ≡ blockBytes s
+unfolding blockBytes
+block-put s d m n o r e p q g h =
+    let u = bytesOf 4 (s .w0) in
+    let v = bytesOf 4 (s .w1) in
+    let w = bytesOf 4 (s .w2) in
+    let x = bytesOf 4 (s .w3) in
+    splice-four d m n o r 0 4 8 12 u v w x p q g h (bytes-length 4 (s .w0)) (simp bytes-length) (simp bytes-length) (omega (arith, e))
+    ∙ put-all d (u ++ (v ++ (w ++ x))) (e ∙ simp (length-append, bytes-length))
+    ∙ sym (append-assoc u v (w ++ x)) ∙ sym (append-assoc (u ++ v) w x)

@@ -1,14 +1,14 @@
 -- FIPS 197, section 5: AES-128, in the order of the document. A word is a number below 2 ^ 32 whose highest byte is the
 -- word's first, a0. The state is its four columns as words, as section 3.5 has it: w0 is the first column, and row r is
 -- byte r of each. The words w of the key schedule are a list; the expanded key is their bytes, word i at 4 i. Assumes nothing.
-use mathlib.Core.List.{List, _++_, map}
-use Prim.Native.Nat.{ℕ, zero, suc, _+_, _*_, _/_, _%_, _^_}
-use lib.Bits.{bitXor}
+use mathlib.Core.List.{List, _++_}
+use Prim.Native.Nat.{ℕ, zero, suc, _+_, _-_, _*_, _/_, _%_, _^_}
+use lib.Bits.{bitXor, bitOr}
 use lib.Dec.{eqb}
 use lib.ListN.{getD}
 use Rattle.words.specs.Choice.{pick}
 use Rattle.words.specs.Numbers.{numberAt, bytesOf}
-use Rattle.aes.specs.Field.{xtime, three, sbox, sub, valuesOf}
+use Rattle.aes.specs.Field.{xtime, three, sub, valuesOf}
 use Rattle.aes.specs.declared.Block.{Block}
 
 -- 3.5: the word of four bytes, and its bytes
@@ -140,9 +140,18 @@ column w x y z k = bitXor (mixColumn (shifted (subWord w) (subWord x) (subWord y
 unfoldable pub lastColumn : ℕ → ℕ → ℕ → ℕ → ℕ → ℕ
 lastColumn w x y z k = bitXor (shifted (subWord w) (subWord x) (subWord y) (subWord z)) k
 
--- The code's table: the column that MixColumns makes of one byte in row 0, for each byte substituted.
+-- The column that MixColumns makes of one byte in row 0, as the code's table has it for each byte substituted.
 unfoldable pub spread : ℕ → ℕ
 spread b = pack (xtime b) b b (three b)
 
-unfoldable pub table : List ℕ
-table = map spread sbox
+-- A word turned n bits to the right, n below 32, as the code turns it.
+abbrev pub rotr : ℕ → ℕ → ℕ
+rotr n x = bitOr (x / 2 ^ n) (x * 2 ^ (31 - n) % 2 ^ 32 * 2 % 2 ^ 32)
+
+-- The columns of a state from the second on, and one behind them.
+abbrev pub push : Block → ℕ → Block
+push s v = state (s .w1) (s .w2) (s .w3) v
+
+-- Word n + 4 of the key schedule, from words n and n + 3.
+unfoldable pub nextOf : ℕ → ℕ → ℕ → ℕ
+nextOf u v n = bitXor u (pick (eqb (n % 4) 0) (bitXor (subWord (rotWord v)) (rcon (n / 4))) v)

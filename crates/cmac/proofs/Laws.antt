@@ -66,9 +66,9 @@ mac-is w m q x y v r eq ex ey ev er =
     let h : length (drop (16 * q) m) ≤ length m - 16 * q = simp length-drop (omega arith) in
     er ∙ ap (cipher w) (ev ∙ ap₂ xorBlock (ex ∙ ap (chain w m) eq) (ey ∙ ap (lastBlock w) (take-all (length m - 16 * q) (drop (16 * q) m) h ∙ ap (λ (n : ℕ). drop (16 * n) m) eq)))
 
-pub cmac-is : (bytes w m : List ℕ) (e : Block) → w ≡ keyWords bytes → e ≡ macBlock w m → blockBytes e ≡ cmac bytes m
+pub cmac-is : (bytes m : List ℕ) (e : Block) → e ≡ macBlock (keyWords bytes) m → blockBytes e ≡ cmac bytes m
 unfolding cmac
-cmac-is bytes w m e ew ee = ap blockBytes (ee ∙ ap (λ (x : List ℕ). macBlock x m) ew)
+cmac-is bytes m e ee = ap blockBytes ee
 
 -- ---- a block as two words
 

@@ -3,7 +3,7 @@
 ghost use mathlib.Core.Path.{_≡_};
 ghost use Prim.Native.Nat.{ℕ, _+_, _*_, _^_, _≤_, _<_};
 ghost use lib.ListN.{length};
-ghost use Rattle.aes.specs.Aes.{cipher, blockBytes, table};
+ghost use Rattle.aes.specs.Aes.{cipher, keyWords, blockBytes};
 ghost use Rattle.cmac.specs.Cmac.{zeroBlock, xorBlock, double, key1, key2, whole, chain, padding, lastBlock, macBlock, cmac};
 ghost use Rattle.cmac.specs.Tags.{tagWords, tagXor, tagEq, tagWith, tagOf};
 
@@ -87,14 +87,14 @@ fn before_last(n: usize) -> usize
 }
 
 // The chain over the first n blocks of m. Inner.
-fn chained(t: &[u32; 256], k: &[u32; aes::SCHEDULE_WORDS], m: &[u8], n: usize) -> aes::Block
-    requires { ⌜ (now t ≡ table) × (16 * n ≤ length (now m)) ⌝ }
-    ensures { λ r. ⌜ r ≡ chain (now (k .entry)) (now (m .entry)) n ⌝ }
+fn chained(k: &[u8; aes::EXPANDED_BYTES], m: &[u8], n: usize) -> aes::Block
+    requires { ⌜ 16 * n ≤ length (now m) ⌝ }
+    ensures { λ r. ⌜ r ≡ chain (keyWords (now (k .entry))) (now (m .entry)) n ⌝ }
 {
     let mut x = zero_block();
     let mut i: usize = 0;
     while i < n {
-        x = aes::encrypt_block(t, k, xored(x, aes::block_at(m, aes::BLOCK_BYTES * i)));
+        x = aes::encrypt_block(k, xored(x, aes::block_at(m, aes::BLOCK_BYTES * i)));
         i += 1;
     }
     x
@@ -111,20 +111,19 @@ fn filled(l: &[u8]) -> [u8; aes::BLOCK_BYTES]
     b
 }
 
-// The first subkey. Inner.
-fn subkey(t: &[u32; 256], k: &[u32; aes::SCHEDULE_WORDS]) -> aes::Block
-    requires { ⌜ now t ≡ table ⌝ }
-    ensures { λ r. ⌜ r ≡ key1 (now (k .entry)) ⌝ }
+// The first subkey.
+fn subkey(k: &[u8; aes::EXPANDED_BYTES]) -> aes::Block
+    ensures { λ r. ⌜ r ≡ key1 (keyWords (now (k .entry))) ⌝ }
 {
-    doubled(aes::encrypt_block(t, k, zero_block()))
+    doubled(aes::encrypt_block(k, zero_block()))
 }
 
 // The last block, with its subkey. Inner.
-fn last_block(t: &[u32; 256], k: &[u32; aes::SCHEDULE_WORDS], l: &[u8]) -> aes::Block
-    requires { ⌜ (now t ≡ table) × (length (now l) ≤ 16) ⌝ }
-    ensures { λ r. ⌜ r ≡ lastBlock (now (k .entry)) (now (l .entry)) ⌝ }
+fn last_block(k: &[u8; aes::EXPANDED_BYTES], l: &[u8]) -> aes::Block
+    requires { ⌜ length (now l) ≤ 16 ⌝ }
+    ensures { λ r. ⌜ r ≡ lastBlock (keyWords (now (k .entry))) (now (l .entry)) ⌝ }
 {
-    let k1 = subkey(t, k);
+    let k1 = subkey(k);
     if l.len() == aes::BLOCK_BYTES {
         xored(aes::block_at(l, 0), k1)
     } else {
@@ -133,16 +132,15 @@ fn last_block(t: &[u32; 256], k: &[u32; aes::SCHEDULE_WORDS], l: &[u8]) -> aes::
     }
 }
 
-// The tag as a block, with table and key words lent. Inner.
-fn mac_block(t: &[u32; 256], k: &[u32; aes::SCHEDULE_WORDS], m: &[u8]) -> aes::Block
-    requires { ⌜ now t ≡ table ⌝ }
-    ensures { λ r. ⌜ r ≡ macBlock (now (k .entry)) (now (m .entry)) ⌝ }
+// The tag as a block.
+fn mac_block(k: &[u8; aes::EXPANDED_BYTES], m: &[u8]) -> aes::Block
+    ensures { λ r. ⌜ r ≡ macBlock (keyWords (now (k .entry))) (now (m .entry)) ⌝ }
 {
     let q = before_last(m.len());
     let at = aes::BLOCK_BYTES * q;
-    let x = chained(t, k, m, q);
-    let y = last_block(t, k, &m[at..]);
-    aes::encrypt_block(t, k, xored(x, y))
+    let x = chained(k, m, q);
+    let y = last_block(k, &m[at..]);
+    aes::encrypt_block(k, xored(x, y))
 }
 
 // A block as a tag.
@@ -159,25 +157,20 @@ fn tag_words(s: aes::Block) -> Tag
 pub fn mac(key: aes::Expanded, m: &[u8]) -> Tag
     ensures { λ r. ⌜ r ≡ tagWords (cmac (key .bytes) (now (m .entry))) ⌝ }
 {
-    let t = aes::lay_table();
     let b = key.bytes;
-    let k = aes::key_words(&b);
-    tag_words(mac_block(&t, &k, m))
+    tag_words(mac_block(&b, m))
 }
 
 // The tag of m, of any length, as bytes.
-fn mac_bytes(key: aes::Expanded, m: &[u8]) -> [u8; aes::BLOCK_BYTES]
-    ensures { λ r. ⌜ r ≡ cmac (key .bytes) (now (m .entry)) ⌝ }
+fn mac_bytes(k: &[u8; aes::EXPANDED_BYTES], m: &[u8]) -> [u8; aes::BLOCK_BYTES]
+    ensures { λ r. ⌜ r ≡ cmac (now (k .entry)) (now (m .entry)) ⌝ }
 {
-    let t = aes::lay_table();
-    let b = key.bytes;
-    let k = aes::key_words(&b);
-    aes::block_bytes(mac_block(&t, &k, m))
+    aes::block_bytes(mac_block(k, m))
 }
 
-// The tag call under an expanded key.
-pub fn tag_with(key: aes::Expanded, m: &[u8]) -> TagAnswer
-    ensures { λ r. ⌜ r ≡ tagWith (key .bytes) (now (m .entry)) ⌝ }
+// The tag call under an expanded key that is lent.
+pub fn tag_under(k: &[u8; aes::EXPANDED_BYTES], m: &[u8]) -> TagAnswer
+    ensures { λ r. ⌜ r ≡ tagWith (now (k .entry)) (now (m .entry)) ⌝ }
 {
     if LONGEST < m.len() {
         return TagAnswer {
@@ -185,11 +178,19 @@ pub fn tag_with(key: aes::Expanded, m: &[u8]) -> TagAnswer
             bytes: [0u8; aes::BLOCK_BYTES],
         };
     }
-    let b = mac_bytes(key, m);
+    let b = mac_bytes(k, m);
     TagAnswer {
         verdict: verdict::ACCEPTED,
         bytes: b,
     }
+}
+
+// The tag call under an expanded key.
+pub fn tag_with(key: aes::Expanded, m: &[u8]) -> TagAnswer
+    ensures { λ r. ⌜ r ≡ tagWith (key .bytes) (now (m .entry)) ⌝ }
+{
+    let b = key.bytes;
+    tag_under(&b, m)
 }
 
 // The tag call under a set key.

@@ -1,5 +1,5 @@
-// Entries 3, 4 and 5, once their bodies are read: evict to tree, evict deferred, evict a tree record deferred. Each works one digest or one
-// tag; 3 and 5 share their checks up to 11.
+// Entries 3 and 5, once their bodies are read: evict to tree, evict a tree record deferred. They share their checks up to 11; 3 works one
+// digest, 5 one tag.
 // Promises upward: verdict, state and every byte of the cache are the rules', for any lent cache and any state whose clock is below its
 // bound; the run's expanded key is passed in.
 ghost use mathlib.Core.Path.{_≡_};
@@ -10,15 +10,13 @@ ghost use Rattle.aes.specs.Aes.{expansion};
 ghost use Rattle.value.specs.declared.Side.the-variants.{Link};
 ghost use Rattle.hash.specs.Hashes.{setBytes, digestOf};
 ghost use Rattle.slot.specs.Slots.{slotLength};
-ghost use Rattle.slot.specs.declared.Slot.the-variants.{Full};
 ghost use Rattle.state.specs.States.{countLimit, clockLimit, evicted};
 ghost use Rattle.rules.specs.Outcomes.{outcome, accepts};
-ghost use Rattle.rules.specs.Evicts.{unlinked, toDeferred, evictLink, evictNode, evictUnder, evictBy, deferredAt, evictDeferred};
+ghost use Rattle.rules.specs.Evicts.{unlinked, toDeferred, evictLink, evictNode, evictUnder, evictBy};
 use aes::Expanded;
 use key::Key;
 use rules::Done;
 use rules::gives;
-use slot::ORIGIN_DEFERRED;
 use slot::ORIGIN_TREE;
 use slot::SLOT_BYTES;
 use slot::Slot;
@@ -232,43 +230,5 @@ pub fn evict_by(x: Expanded, deferring: bool, s: u16, p: u16, st: State, cache: 
             key: k,
             value: v,
         } => evict_under(x, deferring, i, j, o, k, v, st, cache),
-    }
-}
-
-// 4 once slot s holds a record: 16, 20. Inner.
-fn leave(x: Expanded, s: usize, o: u8, k: Key, v: Value, st: State, cache: &mut [u8]) -> Done
-    requires { ⌜ ((x .bytes ≡ expansion (setBytes (st .set))) × (st .clock .0 ≤ clockLimit)) × ((s + 1) * slotLength ≤ length (now cache)) ⌝ }
-    ensures { λ r. ⌜ outcome r (now (cache .exit)) ≡ deferredAt s st (now (cache .entry)) (Full o k v) ⌝ }
-{
-    if o != ORIGIN_DEFERRED {
-        return gives(verdict::WRONG_ORIGIN, st);
-    }
-    if COUNT_LIMIT <= st.tally.evicts {
-        return gives(verdict::COUNT_FULL, st);
-    }
-    free_slot(cache, s);
-    gives(verdict::ACCEPTED, evicted(x, k, v, st))
-}
-
-// 4: s. 4, 17, 6, and so on. Inner.
-pub fn evict_deferred(x: Expanded, s: u16, st: State, cache: &mut [u8]) -> Done
-    requires { ⌜ (x .bytes ≡ expansion (setBytes (st .set))) × (st .clock .0 ≤ clockLimit) ⌝ }
-    ensures { λ r. ⌜ outcome r (now (cache .exit)) ≡ evictDeferred s st (now (cache .entry)) ⌝ }
-{
-    let i = s as usize;
-    if cache.len() / SLOT_BYTES <= i {
-        return gives(verdict::NO_SLOT, st);
-    }
-    if i == ROOT_SLOT {
-        return gives(verdict::ROOT_SLOT, st);
-    }
-    match slot_of(cache, i) {
-        Slot::Free => gives(verdict::SLOT_EMPTY, st),
-        Slot::Bad => gives(verdict::NOT_WELL, st),
-        Slot::Full {
-            origin: o,
-            key: k,
-            value: v,
-        } => leave(x, i, o, k, v, st, cache),
     }
 }

@@ -12,8 +12,8 @@ use Rattle.words.specs.Numbers.{Bytes}
 use Rattle.state.specs.States.{settled}
 use Rattle.state.specs.declared.State.{State}
 use Rattle.rules.specs.Steps.{Step, step}
-use Rattle.run.specs.Runs as runs
-use Rattle.run.specs.Runs.{halts, sound, counted, ended, afterStep, runFrom}
+use Rattle.rules.specs.Runs as runs
+use Rattle.rules.specs.Runs.{halts, sound, counted, ended, afterStep, runFrom}
 use Rattle.integrity.specs.Statement.{Moment, fresh, run, AllBytes}
 use Rattle.integrity.specs.Logs.{restThen, rests, inputsOf, RunDemand3}
 use Rattle.integrity.proofs.Demand3.{settled-demand-3}

@@ -8,8 +8,8 @@ use Rattle.words.specs.Numbers.{Bytes}
 use Rattle.hash.specs.Hashes.{setKey}
 use Rattle.state.specs.declared.State.{State}
 use Rattle.rules.specs.Steps.{Step, step}
-use Rattle.run.specs.Runs as runs
-use Rattle.run.specs.Runs.{halts}
+use Rattle.rules.specs.Runs as runs
+use Rattle.rules.specs.Runs.{halts}
 use Rattle.integrity.specs.Statement.{Moment, fresh, Holds}
 
 -- the rest at a place, and those behind it where the run goes on

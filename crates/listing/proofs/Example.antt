@@ -19,7 +19,7 @@ use Rattle.rules.specs.Evicts.{unlinked, evictLink, evictNode, evictUnder, evic
 use Rattle.rules.specs.Answers.{get, absent, put}
 use Rattle.rules.specs.Epochs.{advance, close}
 use Rattle.rules.specs.Steps.{Step, entryStep, stepWell, step}
-use Rattle.run.specs.Runs.{halts}
+use Rattle.rules.specs.Runs.{halts}
 use Rattle.text.specs.Text.{digitsBefore, decimal, field, lineText, endText}
 use Rattle.listing.specs.Listings.{rowsFrom, listing}
 

@@ -18,7 +18,7 @@ use Rattle.state.specs.declared.State.{State}
 use Rattle.state.specs.declared.Opened.{Opened}
 use Rattle.rules.specs.declared.Stepped.{Stepped}
 use Rattle.rules.specs.Steps.{Step, stepped, step}
-use Rattle.run.specs.Runs.{halts, sound}
+use Rattle.rules.specs.Runs.{halts, sound}
 use Rattle.text.specs.Text.{lineText, slotsText, endText}
 use Rattle.text.proofs.Laws.{Stored, stored-step, stored-rest}
 use Rattle.listing.specs.Listings.{rowThen, rowsFrom, listing}

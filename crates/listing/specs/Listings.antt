@@ -9,7 +9,7 @@ use Rattle.cache.specs.Caches.{openedCache}
 use Rattle.state.specs.States.{settled, freshState}
 use Rattle.state.specs.declared.State.{State}
 use Rattle.rules.specs.Steps.{Step, step}
-use Rattle.run.specs.Runs.{halts}
+use Rattle.rules.specs.Runs.{halts}
 use Rattle.text.specs.Text.{lineText, slotsText, endText}
 
 -- the line of the entry at at, the n + 1st met, and what follows it

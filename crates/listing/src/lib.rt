@@ -7,7 +7,7 @@ ghost use lib.ListN.{length};
 ghost use Rattle.words.specs.Splices.{splice};
 ghost use Rattle.aes.specs.Aes.{expansion};
 ghost use Rattle.hash.specs.Hashes.{setBytes};
-ghost use Rattle.run.specs.Runs.{sound};
+ghost use Rattle.rules.specs.Runs.{sound};
 ghost use Rattle.text.specs.Text.{lineText, endText};
 ghost use Rattle.listing.specs.Listings.{rowsFrom, listing};
 ghost use Rattle.listing.specs.Rooms.{logLimit, rowLimit, endLimit, rowsLimit, textLimit, Counts};

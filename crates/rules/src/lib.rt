@@ -1,5 +1,5 @@
-// The rules: what each entry comes to, for any state and cache, as definitions (specs/) that the verifier's code, its reader and the
-// theorem about settled answers share. The declared types are those that the code returns.
+// The rules: what each entry, a step and a run come to, for any log, state and cache, as definitions (specs/) that the verifier's code, its
+// reader and the theorem about settled answers share. The declared types are those that the code returns.
 // Promises upward: document 01's examples M1 to M12 follow from the definitions.
 ghost use mathlib.Core.Path.{_≡_};
 ghost use Rattle.rules.specs.Outcomes.{gives};
@@ -16,6 +16,15 @@ pub struct Done {
 pub struct Stepped {
     pub verdict: u32,
     pub state: State,
+    pub used: usize,
+}
+
+// What a run returns: the end state, the last epoch settled, entries met, entries accepted, bytes used.
+pub struct Ran {
+    pub state: State,
+    pub settled: u64,
+    pub met: u64,
+    pub accepted: u64,
     pub used: usize,
 }
 

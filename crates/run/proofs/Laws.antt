@@ -26,7 +26,7 @@ use Rattle.rules.specs.Outcomes.{refuses}
 use Rattle.rules.specs.declared.Stepped.{Stepped}
 use Rattle.rules.specs.Steps.{Step, stepped, taking, stepWell, wellFormed, step}
 use Rattle.step.proofs.Kept.{step-inner, step-keeps, step-used}
-use Rattle.run.specs.Runs.{Run, running, halts, sound, ended, afterStep, runFrom, run}
+use Rattle.rules.specs.Runs.{Run, running, halts, sound, ended, afterStep, runFrom, run}
 
 -- ---- a step of a run
 

@@ -1,3 +1,2 @@
--- Empty versions of a run that fall, and the laws of its turns.
-pub mod Empty
+-- The laws of a run's turns.
 pub mod Laws

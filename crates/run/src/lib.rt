@@ -1,6 +1,6 @@
 // A run over a log.
-// Promises upward: the step-by-step definition, for any log, any state and any lent cache; it is made on the inner step, with one
-// expanded key for the whole run.
+// Promises upward: what is returned and every byte of the cache are the rules', for any log, any state and any lent cache; it is made on the
+// inner step, with one expanded key for the whole run.
 ghost use mathlib.Core.Path.{_≡_};
 ghost use mathlib.Core.Bool.{true};
 ghost use Prim.Native.Nat.{ℕ, _≤_};
@@ -10,20 +10,12 @@ ghost use Rattle.words.specs.Choice.{pick};
 ghost use Rattle.verdict.specs.Verdicts.{accepted};
 ghost use Rattle.aes.specs.Aes.{expansion};
 ghost use Rattle.hash.specs.Hashes.{setBytes};
-ghost use Rattle.run.specs.Runs.{running, halts, sound, run};
+ghost use Rattle.rules.specs.Runs.{running, halts, sound, run};
 use aes::Expanded;
 use reader::Reader;
+use rules::Ran;
 use state::State;
 use words::and;
-
-// What a run returns: the end state, the last epoch settled, entries met, entries accepted, bytes used.
-pub struct Ran {
-    pub state: State,
-    pub settled: u64,
-    pub met: u64,
-    pub accepted: u64,
-    pub used: usize,
-}
 
 // Whether a run stops at a verdict: 28, 1 or 3.
 pub fn halts(v: u32) -> bool

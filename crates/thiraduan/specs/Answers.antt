@@ -21,7 +21,7 @@ use Rattle.state.specs.States.{wellState, settled}
 use Rattle.state.specs.declared.State.{State}
 use Rattle.rules.specs.Steps.{Step, step}
 use Rattle.rules.specs.declared.Stepped.{Stepped}
-use Rattle.run.specs.Runs.{Run, run}
+use Rattle.rules.specs.Runs.{Run, run}
 use Rattle.writer.specs.Writings.{Writing, unwritten, writeEntry}
 
 -- a yes or no as a byte

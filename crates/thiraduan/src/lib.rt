@@ -90,8 +90,7 @@ pub extern "C" fn thiraduan_tag_with(expanded: &[u8; 176], m: &[u8], out: &mut [
     ensures { λ r. ⌜ r ≡ tagWith (now (expanded .entry)) (now (m .entry)) .verdict ⌝ }
     ensures { λ _. ⌜ now (out .exit) ≡ tagWith (now (expanded .entry)) (now (m .entry)) .bytes ⌝ }
 {
-    let k = *expanded;
-    let a = cmac::tag_with(aes::Expanded { bytes: k }, m);
+    let a = cmac::tag_under(expanded, m);
     let b = a.bytes;
     *out = b;
     a.verdict
@@ -102,8 +101,7 @@ pub extern "C" fn thiraduan_tag_with(expanded: &[u8; 176], m: &[u8], out: &mut [
 pub extern "C" fn thiraduan_encrypt(expanded: &[u8; 176], block: &[u8; 16], out: &mut [u8; 16])
     ensures { λ _. ⌜ now (out .exit) ≡ encrypted (now (expanded .entry)) (now (block .entry)) ⌝ }
 {
-    let k = *expanded;
-    let b = aes::encrypt(aes::Expanded { bytes: k }, block);
+    let b = aes::encrypt_under(expanded, block);
     *out = b;
 }
 

@@ -16,10 +16,8 @@ const THIRD_WORD: usize = 16;
 
 const FOURTH_WORD: usize = 24;
 
-// How many values a number of one byte has, of two and of four.
+// How many values a number of one byte has, and of four.
 const BYTE_VALUES: u64 = 256;
-
-const PAIR_VALUES: u64 = 65536;
 
 const QUAD_VALUES: u64 = 4294967296;
 
@@ -60,12 +58,12 @@ pub fn pair_at(s: &[u8], at: usize) -> u64
     wide(s[at]) * BYTE_VALUES + wide(s[at + 1])
 }
 
-// Four bytes. Inner.
+// Four bytes, one after another: in this form the compiler reads them at once, and in word_at all eight. Inner.
 pub fn quad_at(s: &[u8], at: usize) -> u64
     requires { ⌜ at + 4 ≤ length (now s) ⌝ }
     ensures { λ r. ⌜ (r ≡ numberAt 4 (now (s .entry)) at) × (r < 2 ^ 32) ⌝ }
 {
-    pair_at(s, at) * PAIR_VALUES + pair_at(s, at + 2)
+    (pair_at(s, at) * BYTE_VALUES + wide(s[at + 2])) * BYTE_VALUES + wide(s[at + 3])
 }
 
 // Eight bytes. Inner.
@@ -132,17 +130,33 @@ pub fn put_quad(s: &mut [u8], at: usize, x: u64)
     requires { ⌜ (at + 4 ≤ length (now s)) × (x < 2 ^ 32) ⌝ }
     ensures { λ _. ⌜ now (s .exit) ≡ splice (now (s .entry)) at (bytesOf 4 x) ⌝ }
 {
-    put_pair(s, at, x / PAIR_VALUES);
-    put_pair(s, at + 2, x % PAIR_VALUES);
+    let a = x / BYTE_VALUES;
+    let b = a / BYTE_VALUES;
+    put_byte(s, at, b / BYTE_VALUES);
+    put_byte(s, at + 1, b % BYTE_VALUES);
+    put_byte(s, at + 2, a % BYTE_VALUES);
+    put_byte(s, at + 3, x % BYTE_VALUES);
 }
 
-// Eight bytes. Inner.
+// Eight bytes, each from the one number: in this form the compiler writes them at once. Inner.
 pub fn put_word(s: &mut [u8], at: usize, x: u64)
     requires { ⌜ at + 8 ≤ length (now s) ⌝ }
     ensures { λ _. ⌜ now (s .exit) ≡ splice (now (s .entry)) at (bytesOf 8 x) ⌝ }
 {
-    put_quad(s, at, x / QUAD_VALUES);
-    put_quad(s, at + 4, x % QUAD_VALUES);
+    let a = x / BYTE_VALUES;
+    let b = a / BYTE_VALUES;
+    let c = b / BYTE_VALUES;
+    let d = c / BYTE_VALUES;
+    let e = d / BYTE_VALUES;
+    let f = e / BYTE_VALUES;
+    put_byte(s, at, f / BYTE_VALUES);
+    put_byte(s, at + 1, f % BYTE_VALUES);
+    put_byte(s, at + 2, e % BYTE_VALUES);
+    put_byte(s, at + 3, d % BYTE_VALUES);
+    put_byte(s, at + 4, c % BYTE_VALUES);
+    put_byte(s, at + 5, b % BYTE_VALUES);
+    put_byte(s, at + 6, a % BYTE_VALUES);
+    put_byte(s, at + 7, x % BYTE_VALUES);
 }
 
 // The bytes of src; where they end. Inner.

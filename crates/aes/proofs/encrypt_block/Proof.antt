@@ -2,16 +2,16 @@ use mathlib.Core.Path.{_≡_, refl, _∙_}
 use Prim.Native.Nat.{_≤_, _-_}
 use native.Mathlib.Omega.{arith}
 use borrow.Author.Needs.{needs}
-use Rattle.aes.specs.Aes.{rounds}
+use Rattle.aes.specs.Aes.{rounds, keyWords}
 use Rattle.aes.proofs.Laws.{more-rounds, cipher-is}
 use Rattle.aes.proofs.encrypt_block.Statement.{statement}
 use Rattle.aes.proofs.encrypt_block.Tie as tie
 
 abbrev Inv-loop : tie.InvT-loop
-Inv-loop t k x₀ n₀ x n = (n ≤ 9) × (x ≡ rounds k n x₀)
+Inv-loop k x₀ n₀ x n = (n ≤ 9) × (x ≡ rounds (keyWords k) n x₀)
 
 abbrev μ-loop : tie.MeasureT-loop
-μ-loop t k x₀ n₀ x n = 9 - n
+μ-loop k x₀ n₀ x n = 9 - n
 
 first-key-added-requires : tie.Need-first-key-added-requires Inv-loop μ-loop
 first-key-added-requires c κs = search needs

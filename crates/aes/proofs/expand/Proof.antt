@@ -5,18 +5,15 @@ use borrow.Author.Needs.{needs}
 use lib.ListN.{length, take}
 use lib.Seq.{take-all}
 use Rattle.aes.specs.Aes.{schedule, expansion}
-use Rattle.aes.proofs.Laws.{schedule-none, schedule-more}
+use Rattle.aes.proofs.Laws.{window, next-window, window-more, schedule-none, schedule-more}
 use Rattle.aes.proofs.expand.Statement.{statement}
 use Rattle.aes.proofs.expand.Tie as tie
 
 abbrev Inv-loop : tie.InvT-loop
-Inv-loop key t b₀ j₀ b j = (j ≤ 40) × (length b ≡ 176) × (take (16 + 4 * j) b ≡ schedule key j)
+Inv-loop key b₀ s₀ j₀ b s j = (j ≤ 40) × (length b ≡ 176) × (take (16 + 4 * j) b ≡ schedule key j) × (s ≡ window (schedule key j) j)
 
 abbrev μ-loop : tie.MeasureT-loop
-μ-loop key t b₀ j₀ b j = 40 - j
-
-lay-table-requires : tie.Need-lay-table-requires Inv-loop μ-loop
-lay-table-requires c κs = search needs
+μ-loop key b₀ s₀ j₀ b s j = 40 - j
 
 slice-aggregate-put-bytes : tie.Need-slice-aggregate-put-bytes Inv-loop μ-loop
 slice-aggregate-put-bytes c = search needs
@@ -24,8 +21,12 @@ slice-aggregate-put-bytes c = search needs
 put-bytes-requires : tie.Need-put-bytes-requires Inv-loop μ-loop
 put-bytes-requires c κs = search needs
 
+block-at-requires : tie.Need-block-at-requires Inv-loop μ-loop
+block-at-requires c κs = search needs
+
 loop-holds : tie.Need-loop-holds Inv-loop μ-loop
-loop-holds c = (search needs, search needs, schedule-none _ _ _ (search needs) (c .before .put-bytes .ensures .1))
+unfolding schedule
+loop-holds c = (search needs, search needs, schedule-none _ _ _ (search needs) (c .before .before .before .put-bytes .ensures .1), c .block-at .ensures)
 
 next-word-requires : tie.Need-next-word-requires Inv-loop μ-loop
 next-word-requires c κs = search needs
@@ -45,6 +46,9 @@ cast-put-quad c = search needs
 put-quad-requires : tie.Need-put-quad-requires Inv-loop μ-loop
 put-quad-requires c κs = search needs
 
+pushed-requires : tie.Need-pushed-requires Inv-loop μ-loop
+pushed-requires c κs = search needs
+
 add-j : tie.Need-add-j Inv-loop μ-loop
 add-j c = search needs
 
@@ -52,7 +56,7 @@ loop-less : tie.Need-loop-less Inv-loop μ-loop
 loop-less c = search needs
 
 loop-again : tie.Need-loop-again Inv-loop μ-loop
-loop-again c = let l = c .before .before .before .before .before .before .before .loop in (search needs, search needs, schedule-more _ (l .b) _ (l .j) _ (search needs) (l .inv .2) (c .before .before .before .next-word .ensures) (c .before .put-quad .ensures))
+loop-again c = let l = c .before .before .before .before .before .before .loop in let e = next-window _ (l .s) (l .j) _ (l .inv .3) (c .before .before .before .before .next-word .ensures) in (search needs, search needs, schedule-more _ (l .b) _ (l .j) _ (search needs) (l .inv .2) e (c .before .before .put-quad .ensures), window-more _ (l .s) _ (l .j) _ (search needs) (search needs) (l .inv .3) e (c .pushed .ensures))
 
 returns : tie.Need-returns Inv-loop μ-loop
 unfolding expansion
@@ -64,9 +68,9 @@ expand-spec =
     (tie.spec
     Inv-loop
     μ-loop
-    lay-table-requires
     slice-aggregate-put-bytes
     put-bytes-requires
+    block-at-requires
     loop-holds
     next-word-requires
     slice-aggregate-put-quad
@@ -74,6 +78,7 @@ expand-spec =
     add-put-quad
     cast-put-quad
     put-quad-requires
+    pushed-requires
     add-j
     loop-less
     loop-again

@@ -1,85 +1,65 @@
+use mathlib.Core.Path.{_≡_, refl}
+use Prim.Native.Nat.{_≤_, _-_}
+use native.Mathlib.Omega.{arith}
 use borrow.Author.Needs.{needs}
-use Rattle.aes.proofs.Laws.{substituted-is}
+use Rattle.aes.proofs.Laws.{subs, subs-more, subs-fits, substituted-is}
 use Rattle.aes.proofs.substituted.Statement.{statement}
 use Rattle.aes.proofs.substituted.Tie as tie
 
-cast-a : tie.Need-cast-a
-cast-a c = search needs
+abbrev Inv-loop : tie.InvT-loop
+Inv-loop w x y z m v₀ j₀ v j = (j ≤ 4) × (v ≡ subs m j)
 
-mul-a : tie.Need-mul-a
-mul-a c = search needs
+abbrev μ-loop : tie.MeasureT-loop
+μ-loop w x y z m v₀ j₀ v j = 4 - j
 
-element-copy-out-a : tie.Need-element-copy-out-a
-element-copy-out-a c = search needs
+rows-requires : tie.Need-rows-requires Inv-loop μ-loop
+rows-requires c κs = search needs
 
-cast-b : tie.Need-cast-b
-cast-b c = search needs
+loop-holds : tie.Need-loop-holds Inv-loop μ-loop
+unfolding subs
+loop-holds c = (search needs, refl)
 
-mul-b : tie.Need-mul-b
-mul-b c = search needs
+mul-v : tie.Need-mul-v Inv-loop μ-loop
+mul-v c = search needs
 
-element-copy-out-b : tie.Need-element-copy-out-b
-element-copy-out-b c = search needs
+array-read-sub-at : tie.Need-array-read-sub-at Inv-loop μ-loop
+array-read-sub-at c = search needs
 
-cast-c : tie.Need-cast-c
-cast-c c = search needs
+sub-at-requires : tie.Need-sub-at-requires Inv-loop μ-loop
+sub-at-requires c κs = search needs
 
-mul-c : tie.Need-mul-c
-mul-c c = search needs
+add-v : tie.Need-add-v Inv-loop μ-loop
+add-v c = let l = c .before .before .loop in record { fits = subs-fits (c .before .before .before .rows .result) (l .j) (l .v) _ (c .sub-at .ensures) }
 
-element-copy-out-c : tie.Need-element-copy-out-c
-element-copy-out-c c = search needs
+add-j : tie.Need-add-j Inv-loop μ-loop
+add-j c = search needs
 
-cast-d : tie.Need-cast-d
-cast-d c = search needs
+loop-less : tie.Need-loop-less Inv-loop μ-loop
+loop-less c = search needs
 
-mul-d : tie.Need-mul-d
-mul-d c = search needs
+loop-again : tie.Need-loop-again Inv-loop μ-loop
+loop-again c = let l = c .before .before .loop in (search needs, subs-more _ (l .j) (l .v) _ (l .inv .1) (c .sub-at .ensures))
 
-element-copy-out-d : tie.Need-element-copy-out-d
-element-copy-out-d c = search needs
-
-mul-result : tie.Need-mul-result
-mul-result c = search needs
-
-add-result : tie.Need-add-result
-add-result c = search needs
-
-mul-result-2 : tie.Need-mul-result-2
-mul-result-2 c = search needs
-
-add-result-2 : tie.Need-add-result-2
-add-result-2 c = search needs
-
-mul-result-3 : tie.Need-mul-result-3
-mul-result-3 c = search needs
-
-add-result-3 : tie.Need-add-result-3
-add-result-3 c = search needs
-
-returns : tie.Need-returns
-returns c = substituted-is _ (c .before .before .before .before .args .w) (c .before .before .before .before .args .x) (c .before .before .before .before .args .y) (c .before .before .before .before .args .z) (c .before .before .before .before .pre)
+returns : tie.Need-returns Inv-loop μ-loop
+returns c =
+    let l = c .before .loop in
+    let e : l .j ≡ 4 = omega arith in
+    let a = c .before .before .before .args in
+    substituted-is (a .w) (a .x) (a .y) (a .z) _ (l .j) (l .v) (c .before .before .rows .ensures) e (l .inv .1)
 
 pub substituted-spec : {M : Type 1} → statement M
 substituted-spec =
     tie.close
     (tie.spec
-    cast-a
-    mul-a
-    element-copy-out-a
-    cast-b
-    mul-b
-    element-copy-out-b
-    cast-c
-    mul-c
-    element-copy-out-c
-    cast-d
-    mul-d
-    element-copy-out-d
-    mul-result
-    add-result
-    mul-result-2
-    add-result-2
-    mul-result-3
-    add-result-3
+    Inv-loop
+    μ-loop
+    rows-requires
+    loop-holds
+    mul-v
+    array-read-sub-at
+    sub-at-requires
+    add-v
+    add-j
+    loop-less
+    loop-again
     returns)

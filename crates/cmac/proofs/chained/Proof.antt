@@ -2,16 +2,17 @@ use mathlib.Core.Path.{_≡_}
 use Prim.Native.Nat.{_≤_, _-_}
 use native.Mathlib.Omega.{arith}
 use borrow.Author.Needs.{needs}
+use Rattle.aes.specs.Aes.{keyWords}
 use Rattle.cmac.specs.Cmac.{chain}
 use Rattle.cmac.proofs.Laws.{chain-more}
 use Rattle.cmac.proofs.chained.Statement.{statement}
 use Rattle.cmac.proofs.chained.Tie as tie
 
 abbrev Inv-loop : tie.InvT-loop
-Inv-loop t k m n x₀ i₀ x i = (i ≤ n) × (x ≡ chain k m i)
+Inv-loop k m n x₀ i₀ x i = (i ≤ n) × (x ≡ chain (keyWords k) m i)
 
 abbrev μ-loop : tie.MeasureT-loop
-μ-loop t k m n x₀ i₀ x i = n - i
+μ-loop k m n x₀ i₀ x i = n - i
 
 zero-block-requires : tie.Need-zero-block-requires Inv-loop μ-loop
 zero-block-requires c κs = search needs

@@ -5,12 +5,6 @@ use Rattle.cmac.proofs.Laws.{cmac-is}
 use Rattle.cmac.proofs.mac.Statement.{statement}
 use Rattle.cmac.proofs.mac.Tie as tie
 
-lay-table-requires : tie.Need-lay-table-requires
-lay-table-requires c κs = search needs
-
-key-words-requires : tie.Need-key-words-requires
-key-words-requires c κs = search needs
-
 mac-block-requires : tie.Need-mac-block-requires
 mac-block-requires c κs = search needs
 
@@ -18,9 +12,9 @@ tag-words-requires : tie.Need-tag-words-requires
 tag-words-requires c κs = search needs
 
 returns : tie.Need-returns
-returns c = c .tag-words .ensures ∙ ap tagWords (cmac-is _ _ _ _ (c .before .before .before .before .key-words .ensures) (c .before .mac-block .ensures))
+returns c = c .tag-words .ensures ∙ ap tagWords (cmac-is _ _ _ (c .before .mac-block .ensures))
 
 pub mac-spec : {M : Type 1} → statement M
 mac-spec =
     tie.close
-    (tie.spec lay-table-requires key-words-requires mac-block-requires tag-words-requires returns)
+    (tie.spec mac-block-requires tag-words-requires returns)

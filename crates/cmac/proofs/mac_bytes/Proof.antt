@@ -4,12 +4,6 @@ use Rattle.cmac.proofs.Laws.{cmac-is}
 use Rattle.cmac.proofs.mac_bytes.Statement.{statement}
 use Rattle.cmac.proofs.mac_bytes.Tie as tie
 
-lay-table-requires : tie.Need-lay-table-requires
-lay-table-requires c κs = search needs
-
-key-words-requires : tie.Need-key-words-requires
-key-words-requires c κs = search needs
-
 mac-block-requires : tie.Need-mac-block-requires
 mac-block-requires c κs = search needs
 
@@ -17,14 +11,12 @@ block-bytes-requires : tie.Need-block-bytes-requires
 block-bytes-requires c κs = search needs
 
 returns : tie.Need-returns
-returns c = c .block-bytes .ensures ∙ cmac-is _ _ _ _ (c .before .before .before .before .key-words .ensures) (c .before .mac-block .ensures)
+returns c = c .block-bytes .ensures ∙ cmac-is _ _ _ (c .before .mac-block .ensures)
 
 pub mac-bytes-spec : {M : Type 1} → statement M
 mac-bytes-spec =
     tie.close
     (tie.spec
-    lay-table-requires
-    key-words-requires
     mac-block-requires
     block-bytes-requires
     returns)

@@ -1,4 +1,4 @@
-use Rattle.run.specs.Runs.{halts}
+use Rattle.rules.specs.Runs.{halts}
 use borrow.Author.Tests.{eq-eqb, ne-eqb}
 use Rattle.run.proofs.halts.Statement.{statement}
 use Rattle.run.proofs.halts.Tie as tie

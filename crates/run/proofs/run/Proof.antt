@@ -1,6 +1,6 @@
 use Rattle.run.proofs.Laws.{refused-empty, refused-first}
-use Rattle.run.specs.declared.Ran.{Ran}
-use Rattle.run.specs.Runs.{running}
+use Rattle.rules.specs.declared.Ran.{Ran}
+use Rattle.rules.specs.Runs.{running}
 use mathlib.Core.List.{List}
 use mathlib.Core.Path.{sym, ap, _∙_}
 use borrow.Author.Needs.{needs}

@@ -1,6 +1,6 @@
 use Rattle.words.specs.Numbers.{Bytes}
 use Rattle.run.proofs.Laws.{Going, going-state, going-key, run-starts, run-over, turn-there, turn-goes, turn-going, turn-on, turn-stop, ended-well}
-use Rattle.run.specs.Runs.{runFrom, run}
+use Rattle.rules.specs.Runs.{runFrom, run}
 use mathlib.Core.Path.{_≡_, refl, sym, _∙_}
 use lib.ListN.{length}
 use Prim.Native.Nat.{ℕ, _+_, _-_, _≤_}

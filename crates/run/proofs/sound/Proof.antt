@@ -1,4 +1,4 @@
-use Rattle.run.specs.Runs.{sound}
+use Rattle.rules.specs.Runs.{sound}
 use mathlib.Core.Path.{_∙_}
 use borrow.Author.Needs.{needs}
 use Rattle.run.proofs.sound.Statement.{statement}

@@ -1,6 +1,6 @@
 use mathlib.Core.List.{[], _∷_}
 use Rattle.flat.specs.Flats.{stateBytes}
-use Rattle.run.specs.Runs.{Run}
+use Rattle.rules.specs.Runs.{Run}
 use Rattle.thiraduan.specs.Answers.{flatRun}
 use mathlib.Core.Path.{refl, sym, ap, _∙_}
 use borrow.Author.Needs.{needs}

@@ -1,2 +1,0 @@
--- A run over a log.
-pub mod Runs

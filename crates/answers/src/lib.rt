@@ -1,9 +1,6 @@
 // Entries 6, 7 and 8, once their bodies are read: get, absent and put. Each looks at one slot, and none works a digest or a tag.
 // Promises upward: verdict, state and every byte of the cache are the rules', for any state and any lent cache.
 ghost use mathlib.Core.Path.{_≡_};
-ghost use Prim.Native.Nat.{ℕ, _+_, _*_, _≤_};
-ghost use lib.ListN.{length};
-ghost use Rattle.slot.specs.Slots.{slotLength};
 ghost use Rattle.rules.specs.Outcomes.{outcome};
 ghost use Rattle.rules.specs.Answers.{get, absentSide, absentNode, absent, put};
 use key::Key;

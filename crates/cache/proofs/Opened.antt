@@ -11,8 +11,9 @@ use lib.Seq.{take-at, drop-append-add}
 use Rattle.words.specs.Numbers.{zeros, Bytes}
 use Rattle.words.specs.Splices.{splice}
 use Rattle.words.proofs.Laws.{zeros-length, append-bytes, never}
-use Rattle.key.specs.Keys.{wellKey, clean, rootKey}
+use Rattle.key.specs.Keys.{rootKey}
 use Rattle.key.specs.declared.Key.{Key}
+use Rattle.key.proofs.Laws.{root-fits, root-well}
 use Rattle.value.specs.Values.{fits, bareNode, wellSide, wellValue}
 use Rattle.value.specs.declared.Value.{Value}
 use Rattle.value.specs.declared.Value.the-variants as v
@@ -44,14 +45,14 @@ pub opened-count : (n : ℕ) → count (openedCache n) ≡ suc n
 opened-count n = rw (opened-length n) (mul-div-cancel (suc n) (lit< tt))
 
 root-kept : Kept tree rootKey (v.Node bareNode)
-unfolding wellKey clean wellValue wellSide
+unfolding wellValue wellSide
 root-kept =
     record {
       low = lit≤ tt;
       high = lit≤ tt;
-      key = refl;
+      key = root-well;
       value = refl;
-      key-fits = record { len = lit< tt; w0 = lit< tt; w1 = lit< tt; w2 = lit< tt; w3 = lit< tt };
+      key-fits = root-fits;
       value-fits = (tt, tt);
     }
 

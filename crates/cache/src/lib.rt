@@ -1,5 +1,5 @@
-// The cache as slots: whether its length and its slots are as said, whether a key is held, and each slot as its own part.
-// Promises upward: 28 and the cache's part of 1 are decided, and a change of one slot is a splice of its 192 bytes.
+// The cache as slots: whether its length and its slots are as said, and whether a key is held.
+// Promises upward: 28 and the cache's part of 1 are decided, and a slot that is written leaves every other as it was.
 ghost use mathlib.Core.Path.{_≡_};
 ghost use Prim.Native.Nat.{_+_, _*_, _/_, _≤_, _<_};
 ghost use lib.ListN.{length};

@@ -143,19 +143,13 @@ fn mac_block(k: &[u8; aes::EXPANDED_BYTES], m: &[u8]) -> aes::Block
     aes::encrypt_block(k, xored(x, y))
 }
 
-fn joined(high: u32, low: u32) -> u64
-    ensures { λ r. ⌜ (r ≡ high * 2 ^ 32 + low) × (high < 2 ^ 32) × (low < 2 ^ 32) ⌝ }
-{
-    (high as u64) * 4294967296 + (low as u64)
-}
-
 // A block as a tag.
 fn tag_words(s: aes::Block) -> Tag
     ensures { λ r. ⌜ r ≡ tagWords (blockBytes s) ⌝ }
 {
     Tag {
-        t0: joined(s.w0, s.w1),
-        t1: joined(s.w2, s.w3),
+        t0: words::joined(s.w0, s.w1),
+        t1: words::joined(s.w2, s.w3),
     }
 }
 

@@ -74,10 +74,6 @@ used-within log = rw (read-used log) (go (headOf log) refl)
     go Cut e = omega arith
     go (Whole t n) e = head-there log t n e .whole
 
--- so a place in the log and the bytes used there stay within it
-pub used-at : (log : List ℕ) (at : ℕ) → at ≤ length log → at + readingUsed (readAt log at) ≤ length log
-used-at log at h = omega (arith, used-within (drop at log), length-drop at log)
-
 cut-short : (log : List ℕ) → headOf log ≡ Cut → readEntry log ≡ reading.Short
 unfolding readEntry
 cut-short log e = rw e

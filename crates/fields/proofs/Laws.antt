@@ -1,47 +1,38 @@
 -- An entry that is well formed is read back from its own fields: nothing is lost at this boundary. Assumes nothing.
-use Prim.Native.Nat.{ℕ, zero, suc, _+_, _-_, _<_}
+use Prim.Native.Nat.{ℕ, _-_, _<_}
 use mathlib.Core.Path.{_≡_, refl, ap, sym, _∙_}
 use mathlib.Core.List.{List, [], _++_, append-nil}
 use mathlib.Core.Bool.{true}
-use native.Mathlib.Nat.{zero-add}
-use native.Mathlib.Omega.{arith}
 use lib.Dec.{lit<}
 use lib.ListN.{length, drop}
 use lib.Seq.{drop-at}
-use borrow.Author.Tests.{le-leb, lt-leb, eqb-true}
+use borrow.Author.Tests.{lt-leb}
 use Rattle.words.specs.Numbers.{zeros}
-use Rattle.words.specs.Splices.{splice}
 use Rattle.words.proofs.Laws.{both-true}
-use Rattle.key.specs.Keys.{keyAt, keyBytes, wellKey, isData, clean, rootKey, KeyFits}
-use Rattle.key.specs.declared.Key.{Key}
+use Rattle.key.specs.Keys.{keyAt, keyBytes, wellKey, isData, rootKey, KeyFits}
 use Rattle.key.specs.declared.KeyRead.the-variants as kr
-use Rattle.key.proofs.Laws.{clean-all, key-back}
+use Rattle.key.proofs.Laws.{key-back, root-fits, root-well, data-well}
 use Rattle.value.specs.Values.{valueAt, valueBytes, wellValue, ValueFits}
 use Rattle.value.specs.declared.Value.{Value}
 use Rattle.value.specs.declared.Value.the-variants as v
 use Rattle.value.specs.declared.ValueRead.the-variants as vr
 use Rattle.value.proofs.Back.{value-back}
 use Rattle.slot.specs.Slots.{allZero}
-use Rattle.slot.proofs.Laws.{drop-zeros}
+use Rattle.slot.proofs.Laws.{all-zero, splice-zeros}
 use Rattle.entry.specs.Entries.{wellEntry}
 use Rattle.entry.specs.declared.Entry.{Entry}
 use Rattle.entry.specs.declared.Entry.the-variants.{AddTree, AddDeferred, EvictTree, EvictDeferred, EvictTreeDeferred, Get, Absent, Put, Advance, Close}
-use Rattle.entry.specs.declared.EntryRead.the-variants.{Good, Bad}
+use Rattle.entry.specs.declared.EntryRead.the-variants.{Good}
 use Rattle.writer.specs.Writings.{EntryFits}
 use Rattle.fields.specs.Forms.{valueLength, undated, fieldsOf, numbersOf, valueField, entryWith, entryFrom}
 use Rattle.fields.specs.declared.Fields.{Fields}
 
 -- ---- a value, and then zeros
 
-zeros-zero : (n : ℕ) → allZero (zeros n) ≡ true
-unfolding allZero zeros
-zeros-zero zero = refl
-zeros-zero (suc n) = zeros-zero n
-
 module _ (x : Value) where
   field-value : valueField x ≡ valueBytes x ++ zeros (valueLength - length (valueBytes x))
-  unfolding valueField splice
-  field-value = rw (zero-add, drop-zeros (length (valueBytes x)) valueLength)
+  unfolding valueField
+  field-value = splice-zeros valueLength (valueBytes x)
 
   field-back : ValueFits x → wellValue x ≡ true → valueAt (valueField x) 0 ≡ vr.Good x (length (valueBytes x))
   field-back f w = rw field-value (value-back 0 [] (zeros (valueLength - length (valueBytes x))) refl x f w)
@@ -49,7 +40,7 @@ module _ (x : Value) where
   field-rest : allZero (drop (length (valueBytes x)) (valueField x)) ≡ true
   field-rest =
       rw (field-value, drop-at (valueBytes x) (zeros (valueLength - length (valueBytes x))) (length (valueBytes x)) refl)
-      (zeros-zero (valueLength - length (valueBytes x)))
+      (all-zero (valueLength - length (valueBytes x)))
 
 -- ---- fields that fit are put together as their tag says
 
@@ -72,23 +63,9 @@ fields-back f w =
 
 -- ---- every entry
 
-root-fits : KeyFits rootKey
-root-fits = record { len = lit< tt; w0 = lit< tt; w1 = lit< tt; w2 = lit< tt; w3 = lit< tt }
-
-root-well : wellKey rootKey ≡ true
-unfolding wellKey clean
-root-well = refl
-
 none-well : wellValue v.None ≡ true
 unfolding wellValue
 none-well = refl
-
--- a data key is well formed
-data-well : (k : Key) → isData k ≡ true → wellKey k ≡ true
-unfolding wellKey
-data-well k e =
-    let h : k .len ≡ 256 = eqb-true (k .len) 256 e in
-    rw (le-leb (k .len) 256 (omega arith), clean-all (k .len) (k .w0) (omega arith), clean-all (k .len - 64) (k .w1) (omega arith), clean-all (k .len - 128) (k .w2) (omega arith), clean-all (k .len - 192) (k .w3) (omega arith))
 
 bare : (t s p : ℕ) → t < 256 → s < 65536 → p < 65536 → FieldsWell (undated t s p rootKey v.None)
 bare t s p ht hs hp = record { tag = ht; s = hs; p = hp; keyFits = root-fits; key = root-well; valueFits = tt; value = none-well }

@@ -1,37 +1,33 @@
 -- Laws of the state's bytes: their length, and the round trip, both ways. Assumes nothing.
-use Prim.Native.Nat.{ℕ, _+_, _≤_, _<_, _^_}
+use Prim.Native.Nat.{ℕ, _+_, _-_, _≤_}
 use mathlib.Core.Path.{_≡_, refl, ap, sym, _∙_}
 use mathlib.Core.Bool.{true}
 use mathlib.Core.List.{List, [], _∷_, _++_, append-assoc, append-nil}
 use native.Mathlib.Omega.{arith}
-use lib.ListN.{length, getD, take, drop, length-append, drop-of-length-le}
+use lib.ListN.{length, getD, drop, length-append, length-drop}
 use lib.Dec.{eqb}
 use lib.Seq.{getD-at, drop-at, take-length}
 use borrow.Author.Tests.{eq-eqb, eqb-true}
-use Rattle.words.specs.Numbers.{numberAt, bytesOf, zeros, Bytes}
-use Rattle.words.specs.Splices.{splice, part}
-use Rattle.words.proofs.Laws.{bytes-length, zeros-length, number-at, number-lt, bytes-back, both-true, part-one, part-step, picked, never}
+use Rattle.words.specs.Numbers.{twoWords, zeros, Bytes}
+use Rattle.words.specs.Splices.{part}
+use Rattle.words.proofs.Laws.{bytes-length, zeros-length, number-lt, bytes-back, TwoAt, two-length, two-at, two-back, part-one, part-rest, part-step, picked, never}
 use Rattle.cmac.specs.declared.Tag.{Tag}
 use Rattle.hash.specs.Hashes.{setBytes}
-use Rattle.hash.specs.declared.SetKey.{SetKey}
+use Rattle.hash.proofs.Laws.{set-length}
 use Rattle.state.specs.declared.Tally.{Tally}
 use Rattle.state.specs.declared.Old.{Old}
 use Rattle.state.specs.declared.Old.the-variants.{Closed, Open}
 use Rattle.state.specs.declared.State.{State}
 use Rattle.slot.specs.Slots.{allZero}
-use Rattle.slot.proofs.Laws.{zero-number}
+use Rattle.slot.proofs.Laws.{all-zero, zero-all}
 use Rattle.flat.specs.Flats.{stateLength, tagBytes, tallyBytes, oldBytes, frontBytes, stateBytes, tagAt, tallyAt, oldAt, stateOf, stateWith, stateAt, TagFits, TallyFits, OldFits, StateFits}
 use Rattle.flat.specs.declared.OldRead.{OldRead}
 use Rattle.flat.specs.declared.OldRead.the-variants as oldRead
 use Rattle.flat.specs.declared.StateRead.the-variants as stateRead
 
-pub set-length : (k : SetKey) → length (setBytes k) ≡ 16
-unfolding setBytes
-set-length k = simp (length-append, bytes-length)
-
 pub tag-length : (g : Tag) → length (tagBytes g) ≡ 16
 unfolding tagBytes
-tag-length g = simp (length-append, bytes-length)
+tag-length g = two-length (g .t0) (g .t1)
 
 pub tally-length : (t : Tally) → length (tallyBytes t) ≡ 48
 unfolding tallyBytes
@@ -50,32 +46,6 @@ pub state-length : (st : State) → length (stateBytes st) ≡ stateLength
 unfolding stateBytes
 state-length st = simp (length-append, front-length, tally-length, old-length)
 
--- bytes put in the place of all
-pub splice-all : (d v : List ℕ) → length v ≡ length d → splice d 0 v ≡ v
-unfolding splice
-splice-all d v e = rw (drop-of-length-le d {i = 0 + length v} (omega arith), append-nil)
-
--- ---- two words side by side, as a set key and a tag have them
-
-abbrev two : ℕ → ℕ → List ℕ
-two a b = bytesOf 8 a ++ bytesOf 8 b
-
-record TwoAt (s : List ℕ) (at a b : ℕ) : Type 0 where
-  first : numberAt 8 s at ≡ a
-  second : numberAt 8 s (at + 8) ≡ b
-
-two-at : (a b at : ℕ) (p r : List ℕ) → length p ≡ at → a < 2 ^ 64 → b < 2 ^ 64 → TwoAt (p ++ (two a b ++ r)) at a b
-two-at a b at p r e ha hb =
-    record {
-      first = ap (λ (s : List ℕ). numberAt 8 s at) (simp append-assoc) ∙ number-at 8 a at p (bytesOf 8 b ++ r) e ha;
-      second =
-          ap (λ (s : List ℕ). numberAt 8 s (at + 8)) (simp append-assoc)
-          ∙ number-at 8 b (at + 8) (p ++ bytesOf 8 a) r (simp (length-append, bytes-length, e)) hb;
-    }
-
-two-same : (s : List ℕ) (at : ℕ) → Bytes s → at + 16 ≤ length s → two (numberAt 8 s at) (numberAt 8 s (at + 8)) ≡ part s at 16
-two-same s at b h = part-step s at 8 (at + 8) 8 16 _ _ (bytes-back 8 s at b (omega arith)) (bytes-back 8 s (at + 8) b (omega arith)) refl refl
-
 -- ---- what is written is read, wherever it stands and whatever follows
 
 tag-back : (g : Tag) → TagFits g → (at : ℕ) (p r : List ℕ) → length p ≡ at → tagAt (p ++ (tagBytes g ++ r)) at ≡ g
@@ -86,28 +56,24 @@ module _ (t : Tally) (f : TallyFits t) (at : ℕ) (p r : List ℕ) (e : length p
   tally-counts : TwoAt (p ++ (tallyBytes t ++ r)) at (t .adds) (t .evicts)
   unfolding tallyBytes
   tally-counts =
-      let q : p ++ (tallyBytes t ++ r) ≡ p ++ (two (t .adds) (t .evicts) ++ ((tagBytes (t .addsum) ++ tagBytes (t .evictsum)) ++ r)) = simp append-assoc in
+      let q : p ++ (tallyBytes t ++ r) ≡ p ++ (twoWords (t .adds) (t .evicts) ++ ((tagBytes (t .addsum) ++ tagBytes (t .evictsum)) ++ r)) = simp append-assoc in
       rw q (two-at (t .adds) (t .evicts) at p ((tagBytes (t .addsum) ++ tagBytes (t .evictsum)) ++ r) e (f .adds) (f .evicts))
 
   tally-adds : tagAt (p ++ (tallyBytes t ++ r)) (at + 16) ≡ t .addsum
   unfolding tallyBytes
   tally-adds =
       ap (λ (s : List ℕ). tagAt s (at + 16)) (simp append-assoc)
-      ∙ tag-back (t .addsum) (f .addsum) (at + 16) (p ++ two (t .adds) (t .evicts)) (tagBytes (t .evictsum) ++ r) (simp (length-append, bytes-length, e))
+      ∙ tag-back (t .addsum) (f .addsum) (at + 16) (p ++ twoWords (t .adds) (t .evicts)) (tagBytes (t .evictsum) ++ r) (simp (length-append, bytes-length, e))
 
   tally-evicts : tagAt (p ++ (tallyBytes t ++ r)) (at + 32) ≡ t .evictsum
   unfolding tallyBytes
   tally-evicts =
       ap (λ (s : List ℕ). tagAt s (at + 32)) (simp append-assoc)
-      ∙ tag-back (t .evictsum) (f .evictsum) (at + 32) (p ++ (two (t .adds) (t .evicts) ++ tagBytes (t .addsum))) r (simp (length-append, bytes-length, tag-length, e))
+      ∙ tag-back (t .evictsum) (f .evictsum) (at + 32) (p ++ (twoWords (t .adds) (t .evicts) ++ tagBytes (t .addsum))) r (simp (length-append, bytes-length, tag-length, e))
 
   tally-back : tallyAt (p ++ (tallyBytes t ++ r)) at ≡ t
   unfolding tallyAt
   tally-back = rw (tally-counts .first, tally-counts .second, tally-adds, tally-evicts)
-
-zero-zeros : allZero (zeros 48) ≡ true
-unfolding allZero zeros
-zero-zeros = refl
 
 old-back : (o : Old) → OldFits o → (p : List ℕ) → length p ≡ 80 → oldAt (p ++ oldBytes o) ≡ oldRead.Good o
 unfolding oldAt oldBytes
@@ -116,7 +82,7 @@ old-back Closed f p e = rw (getD-at p 0 (zeros 48) 0 80 e, rest)
     rest : allZero (drop 81 (p ++ (0 ∷ zeros 48))) ≡ true
     rest =
         ap (λ (l : List ℕ). allZero (drop 81 l)) (sym (append-assoc p (0 ∷ []) (zeros 48)))
-        ∙ ap allZero (drop-at (p ++ (0 ∷ [])) (zeros 48) 81 (simp length-append (omega arith))) ∙ zero-zeros
+        ∙ ap allZero (drop-at (p ++ (0 ∷ [])) (zeros 48) 81 (simp length-append (omega arith))) ∙ all-zero 48
 old-back (Open t) f p e =
     rw (getD-at p 1 (tallyBytes t) 0 80 e, ap (λ (l : List ℕ). tallyAt l 81) regrouped ∙ tally-back t f 81 (p ++ (1 ∷ [])) [] (simp length-append (omega arith)))
   where
@@ -127,13 +93,13 @@ module _ (st : State) (f : StateFits st) where
   state-set : TwoAt (stateBytes st) 0 (st .set .k0) (st .set .k1)
   unfolding stateBytes frontBytes setBytes
   state-set =
-      let q : stateBytes st ≡ [] ++ (two (st .set .k0) (st .set .k1) ++ (two (st .clock .0) (st .epoch .0) ++ (tallyBytes (st .tally) ++ oldBytes (st .old)))) = simp append-assoc in
+      let q : stateBytes st ≡ [] ++ (twoWords (st .set .k0) (st .set .k1) ++ (twoWords (st .clock .0) (st .epoch .0) ++ (tallyBytes (st .tally) ++ oldBytes (st .old)))) = simp append-assoc in
       rw q (two-at (st .set .k0) (st .set .k1) 0 [] _ refl (f .k0) (f .k1))
 
   state-times : TwoAt (stateBytes st) 16 (st .clock .0) (st .epoch .0)
   unfolding stateBytes frontBytes
   state-times =
-      rw (append-assoc (setBytes (st .set)) (two (st .clock .0) (st .epoch .0)))
+      rw (append-assoc (setBytes (st .set)) (twoWords (st .clock .0) (st .epoch .0)))
       (two-at (st .clock .0) (st .epoch .0) 16 (setBytes (st .set)) _ (set-length (st .set)) (f .clock) (f .epoch))
 
   state-tally : tallyAt (stateBytes st) 32 ≡ st .tally
@@ -156,7 +122,7 @@ module _ (st : State) (f : StateFits st) where
 module _ (s : List ℕ) (b : Bytes s) where
   tag-same : (at : ℕ) → at + 16 ≤ length s → tagBytes (tagAt s at) ≡ part s at 16
   unfolding tagBytes tagAt
-  tag-same at h = two-same s at b h
+  tag-same at h = two-back s at b h
 
   tag-fits : (at : ℕ) → TagFits (tagAt s at)
   unfolding tagAt
@@ -189,11 +155,9 @@ module _ (s : List ℕ) (b : Bytes s) where
     mark-same x e = sym (part-one s 80 (omega arith) ∙ rw e)
 
     zeros-same : allZero (drop 81 s) ≡ true → zeros 48 ≡ part s 81 48
-    unfolding zeros bytesOf
     zeros-same z =
-        let n : numberAt 48 s 81 ≡ 0 = eqb-true _ _ (both-true _ _ (sym (zero-number 48 s 81 (omega arith)) ∙ z) .0) in
-        let zero : zeros 48 ≡ bytesOf 48 0 = refl in
-        zero ∙ ap (bytesOf 48) (sym n) ∙ bytes-back 48 s 81 b (omega arith)
+        let n : length s - 81 ≡ 48 = omega arith in
+        sym (ap (part s 81) (sym n) ∙ part-rest s 81 ∙ zero-all (drop 81 s) z ∙ ap zeros (length-drop 81 s ∙ n))
 
     old-moved : (x y : Old) → OldThere x → oldRead.Good x ≡ oldRead.Good y → OldThere y
     old-moved x y t e = let p : x ≡ y = cc in rw p at t
@@ -215,7 +179,7 @@ module _ (s : List ℕ) (b : Bytes s) where
     state-there o t =
         record {
           bytes =
-              part-step s 0 32 32 97 129 _ _ (part-step s 0 16 16 16 32 _ _ (two-same s 0 b (omega arith)) (two-same s 16 b (omega arith)) refl refl)
+              part-step s 0 32 32 97 129 _ _ (part-step s 0 16 16 16 32 _ _ (two-back s 0 b (omega arith)) (two-back s 16 b (omega arith)) refl refl)
               (part-step s 32 48 80 49 97 _ _ (tally-same 32 (omega arith)) (t .bytes) refl refl) refl refl
               ∙ rw (← h) (take-length s);
           fits =

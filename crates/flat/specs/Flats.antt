@@ -2,11 +2,10 @@
 -- none is open. A tally: adds (8), evicts (8), add sum (16), evict sum (16).
 use Prim.Native.Nat.{ℕ, _+_, _^_, _<_}
 use mathlib.Core.List.{List, [], _∷_, _++_}
-use mathlib.Core.Bool.{Bool, true, false}
 use lib.Dec.{eqb}
 use lib.ListN.{length, getD, drop}
 use Rattle.words.specs.Choice.{pick}
-use Rattle.words.specs.Numbers.{numberAt, bytesOf, zeros}
+use Rattle.words.specs.Numbers.{numberAt, bytesOf, twoWords, zeros}
 use Rattle.cmac.specs.declared.Tag.{Tag}
 use Rattle.hash.specs.Hashes.{setBytes}
 use Rattle.hash.specs.declared.SetKey.{SetKey}
@@ -26,7 +25,7 @@ stateLength = 129
 -- ---- written
 
 unfoldable pub tagBytes : Tag → List ℕ
-tagBytes g = bytesOf 8 (g .t0) ++ bytesOf 8 (g .t1)
+tagBytes g = twoWords (g .t0) (g .t1)
 
 unfoldable pub tallyBytes : Tally → List ℕ
 tallyBytes t = bytesOf 8 (t .adds) ++ (bytesOf 8 (t .evicts) ++ (tagBytes (t .addsum) ++ tagBytes (t .evictsum)))
@@ -37,7 +36,7 @@ oldBytes (Open t) = (1 ∷ []) ++ tallyBytes t
 
 -- set key, clock, epoch
 unfoldable pub frontBytes : State → List ℕ
-frontBytes st = setBytes (st .set) ++ (bytesOf 8 (st .clock .0) ++ bytesOf 8 (st .epoch .0))
+frontBytes st = setBytes (st .set) ++ twoWords (st .clock .0) (st .epoch .0)
 
 unfoldable pub stateBytes : State → List ℕ
 stateBytes st = frontBytes st ++ (tallyBytes (st .tally) ++ oldBytes (st .old))

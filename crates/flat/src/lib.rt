@@ -1,11 +1,10 @@
 // The state as 129 bytes of a fixed layout, for callers outside.
 // Promises upward: bytes that are no state are told from those that are, and a state is written in one way.
 ghost use mathlib.Core.Path.{_≡_};
-ghost use Prim.Native.Nat.{ℕ, _+_, _≤_};
-ghost use lib.ListN.{length, drop};
+ghost use Prim.Native.Nat.{_+_, _≤_};
+ghost use lib.ListN.{length};
 ghost use Rattle.words.specs.Splices.{splice};
 ghost use Rattle.hash.specs.Hashes.{setBytes};
-ghost use Rattle.slot.specs.Slots.{allZero};
 ghost use Rattle.flat.specs.Flats.{stateLength, tagBytes, tallyBytes, oldBytes, frontBytes, stateBytes, tagAt, tallyAt, oldAt, stateAt, TagFits, TallyFits, OldFits, StateFits};
 use cmac::Tag;
 use hash::SetKey;

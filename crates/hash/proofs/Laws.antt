@@ -5,11 +5,11 @@ use mathlib.Core.List.{List, [], _++_, append-assoc, append-nil}
 use native.Mathlib.Omega.{arith}
 use native.Mathlib.Nat.{zero-add}
 use lib.Arith.{digits-lt}
-use lib.ListN.{length, take, length-append}
+use lib.ListN.{length, take}
 use lib.Seq.{take-length}
-use Rattle.words.specs.Numbers.{numberAt, bytesOf, Bytes}
+use Rattle.words.specs.Numbers.{bytesOf, twoWords, Bytes}
 use Rattle.words.specs.Splices.{splice}
-use Rattle.words.proofs.Laws.{bytes-length, bytes-back, bytes-join, number-at, part-join, splice-all, splice-length, splice-step, take-splice}
+use Rattle.words.proofs.Laws.{bytes-length, bytes-join, TwoAt, two-length, two-at, two-back, splice-all, splice-length, splice-step, take-splice}
 use Rattle.sha256.specs.Sha256.{sha256, hashOf, hashBytes}
 use Rattle.sha256.specs.declared.Hash.{Hash}
 use Rattle.value.specs.Values.{digestAt, digestBytes, valueBytes, DigestFits}
@@ -86,11 +86,11 @@ pub set-written : (k : SetKey) (d m r : List ℕ) → length d ≡ 16 → m ≡ 
 unfolding setBytes
 set-written k d m r l p q =
     splice-step d m r 0 8 (bytesOf 8 (k .k0)) (bytesOf 8 (k .k1)) p q (bytes-length 8 (k .k0)) (omega arith)
-    ∙ splice-all d (bytesOf 8 (k .k0) ++ bytesOf 8 (k .k1)) (simp (length-append, bytes-length) (sym l))
+    ∙ splice-all d (twoWords (k .k0) (k .k1)) (two-length (k .k0) (k .k1) ∙ sym l)
 
 pub set-length : (k : SetKey) → length (setBytes k) ≡ 16
 unfolding setBytes
-set-length k = simp (length-append, bytes-length)
+set-length k = two-length (k .k0) (k .k1)
 
 set-ext : (a b : SetKey) → a .k0 ≡ b .k0 → a .k1 ≡ b .k1 → a ≡ b
 set-ext a b p q = λ i. record { k0 = p i; k1 = q i }
@@ -99,13 +99,10 @@ set-ext a b p q = λ i. record { k0 = p i; k1 = q i }
 pub set-back : (k : SetKey) → k .k0 < 2 ^ 64 → k .k1 < 2 ^ 64 → setKey (setBytes k) ≡ k
 unfolding setKey setBytes
 set-back k p q =
-    set-ext (setKey (setBytes k)) k (number-at 8 (k .k0) 0 [] (bytesOf 8 (k .k1)) refl p)
-    (ap (λ (l : List ℕ). numberAt 8 (bytesOf 8 (k .k0) ++ l) 8) (sym (append-nil (bytesOf 8 (k .k1))))
-    ∙ number-at 8 (k .k1) 8 (bytesOf 8 (k .k0)) [] (bytes-length 8 (k .k0)) q)
+    let t : TwoAt (twoWords (k .k0) (k .k1)) 0 (k .k0) (k .k1) = rw append-nil at (two-at (k .k0) (k .k1) 0 [] [] refl p q) in
+    set-ext (setKey (setBytes k)) k (t .first) (t .second)
 
 -- and 16 bytes that are read are written as the same
 pub set-same : (b : List ℕ) → Bytes b → length b ≡ 16 → setBytes (setKey b) ≡ b
 unfolding setKey setBytes
-set-same b p l =
-    rw (bytes-back 8 b 0 p (omega arith), bytes-back 8 b 8 p (omega arith))
-    (part-join b 0 8 8 8 refl ∙ ap (λ (n : ℕ). take n b) (sym l) ∙ take-length b)
+set-same b p l = two-back b 0 p (omega arith) ∙ ap (λ (n : ℕ). take n b) (sym l) ∙ take-length b

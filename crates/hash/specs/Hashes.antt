@@ -1,8 +1,8 @@
 -- Document 01, "Keys, values, messages": the digest of a value is the SHA-256 of its bytes; the tag of a message is the CMAC of its
 -- bytes under the set key.
-use mathlib.Core.List.{List, _++_}
+use mathlib.Core.List.{List}
 use Prim.Native.Nat.{ℕ}
-use Rattle.words.specs.Numbers.{numberAt, bytesOf}
+use Rattle.words.specs.Numbers.{numberAt, twoWords}
 use Rattle.sha256.specs.Sha256.{sha256}
 use Rattle.aes.specs.Aes.{expansion}
 use Rattle.cmac.specs.Cmac.{cmac}
@@ -20,7 +20,7 @@ digestOf v = digestAt (sha256 (valueBytes v)) 0
 
 -- the set key's 16 bytes, and the set key that they make
 unfoldable pub setBytes : SetKey → List ℕ
-setBytes k = bytesOf 8 (k .k0) ++ bytesOf 8 (k .k1)
+setBytes k = twoWords (k .k0) (k .k1)
 
 unfoldable pub setKey : List ℕ → SetKey
 setKey b = record { k0 = numberAt 8 b 0; k1 = numberAt 8 b 8 }

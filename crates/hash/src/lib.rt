@@ -1,4 +1,4 @@
-// The digest of a value and the tag of a message, each worked from bytes in a buffer of its own.
+// The digest of a value and the tag of a message, each worked from bytes in a buffer of its own; and the set key.
 // Promises upward: they are the standards' over the forms' bytes, and nothing above looks inside.
 ghost use mathlib.Core.Path.{_≡_};
 ghost use Rattle.sha256.specs.Sha256.{hashBytes};

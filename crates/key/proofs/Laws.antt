@@ -1,19 +1,19 @@
 -- Laws of keys: the tests on words, and the round trip through bytes. Assumes nothing.
-use Prim.Native.Nat.{ℕ, _+_, _*_, _%_, _^_, _≤_, _<_}
+use Prim.Native.Nat.{ℕ, _+_, _*_, _-_, _%_, _^_, _≤_, _<_}
 use mathlib.Core.Path.{_≡_, refl, ap, sym, _∙_}
 use mathlib.Core.List.{List, [], _++_, append-assoc}
 use mathlib.Core.Bool.{true, false}
 use native.Mathlib.Nat.{div-eq-of-lt, div-one, mod-one, mod-eq-of-lt, sub-eq-zero-of-le, one-mul, add-assoc}
 use native.Mathlib.Omega.{arith}
 use lib.ListN.{length, length-append}
-use borrow.Author.Tests.{eqb-true, eq-eqb}
+use borrow.Author.Tests.{le-leb, eqb-true, eq-eqb}
 use lib.Dec.{eqb, lit<}
 use lib.Pow.{shl-exact}
 use Rattle.words.specs.Choice.{pick}
 use Rattle.words.specs.Numbers.{numberAt, bytesOf, Bytes}
 use Rattle.words.specs.Splices.{part}
 use Rattle.words.proofs.Laws.{bytes-length, number-at, number-lt, bytes-back, part-join, four-length, four-at, four-back, four-bytes, append-bytes, number-bytes, both-true, picked, never}
-use Rattle.key.specs.Keys.{keyAt, rawKey, dataAt, dataKey, isData, wellKey, keyBytes, dataBytes, KeyFits, keyEq, sameTop, clean}
+use Rattle.key.specs.Keys.{keyAt, rawKey, dataAt, rootKey, dataKey, isData, wellKey, keyBytes, dataBytes, KeyFits, keyEq, sameTop, clean}
 use Rattle.key.specs.declared.Key.{Key}
 use Rattle.key.specs.declared.KeyRead.the-variants.{Good, Bad}
 
@@ -78,6 +78,22 @@ pub keyEq-refl : (a : Key) → keyEq a a ≡ true
 unfolding keyEq
 keyEq-refl a =
     rw (eq-eqb (a .len) (a .len) refl, eq-eqb (a .w0) (a .w0) refl, eq-eqb (a .w1) (a .w1) refl, eq-eqb (a .w2) (a .w2) refl, eq-eqb (a .w3) (a .w3) refl)
+
+-- ---- the root and the data keys are keys
+
+pub root-fits : KeyFits rootKey
+root-fits = record { len = lit< tt; w0 = lit< tt; w1 = lit< tt; w2 = lit< tt; w3 = lit< tt }
+
+pub root-well : wellKey rootKey ≡ true
+unfolding wellKey clean
+root-well = refl
+
+-- a data key is well formed
+pub data-well : (k : Key) → isData k ≡ true → wellKey k ≡ true
+unfolding wellKey
+data-well k e =
+    let h : k .len ≡ 256 = eqb-true (k .len) 256 e in
+    rw (le-leb (k .len) 256 (omega arith), clean-all (k .len) (k .w0) (omega arith), clean-all (k .len - 64) (k .w1) (omega arith), clean-all (k .len - 128) (k .w2) (omega arith), clean-all (k .len - 192) (k .w3) (omega arith))
 
 -- ---- the round trip
 

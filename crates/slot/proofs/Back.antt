@@ -1,6 +1,6 @@
 -- What is written as a slot is read as that slot; what is read as a record is well formed and is written as the same bytes.
 -- Assumes nothing.
-use Prim.Native.Nat.{ℕ, zero, suc, _+_, _-_, _≤_}
+use Prim.Native.Nat.{ℕ, _+_, _-_, _≤_}
 use mathlib.Core.Path.{_≡_, refl, ap, sym, _∙_}
 use mathlib.Core.List.{List, [], _∷_, _++_, append-assoc}
 use mathlib.Core.Bool.{true}
@@ -8,9 +8,9 @@ use native.Mathlib.Omega.{arith}
 use lib.Dec.{eqb, ltb}
 use lib.ListN.{length, getD, take, drop, length-append, length-drop, take-append-drop}
 use lib.Seq.{drop-at, length-take-le}
-use borrow.Author.Tests.{ne-eqb, le-ltb, eqb-true, eqb-false, ltb-false}
+use borrow.Author.Tests.{ne-eqb, le-ltb, eqb-false, ltb-false}
 use Rattle.words.specs.Numbers.{zeros, Bytes}
-use Rattle.words.proofs.Laws.{both-true, picked, part-one, part-step, never}
+use Rattle.words.proofs.Laws.{picked, part-one, part-step, never}
 use Rattle.key.specs.Keys.{keyAt, keyBytes, wellKey, KeyFits}
 use Rattle.key.specs.declared.Key.{Key}
 use Rattle.key.specs.declared.KeyRead.{KeyRead}
@@ -24,22 +24,7 @@ use Rattle.value.proofs.Back.{value-back}
 use Rattle.value.proofs.Same.{value-same}
 use Rattle.slot.specs.Slots.{slotLength, filled, slotBytes, allZero, slotEnd, slotThen, slotAt}
 use Rattle.slot.specs.declared.Slot.the-variants.{Free, Full, Bad}
-
--- ---- zeros
-
-all-zero : (n : ℕ) → allZero (zeros n) ≡ true
-unfolding allZero zeros
-all-zero zero = refl
-all-zero (suc n) = all-zero n
-
-zero-all : (s : List ℕ) → allZero s ≡ true → s ≡ zeros (length s)
-unfolding allZero zeros
-zero-all [] e = refl
-zero-all (x ∷ s) e =
-    let b = both-true (eqb x 0) (allZero s) e in
-    let p : x ≡ 0 = eqb-true x 0 (b .0) in
-    let q = zero-all s (b .1) in
-    cc
+use Rattle.slot.proofs.Laws.{all-zero, zero-all}
 
 -- a slot of zeros is free
 pub zero-slot : slotAt (zeros slotLength) ≡ Free

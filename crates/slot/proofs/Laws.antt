@@ -2,18 +2,18 @@
 use Prim.Native.Nat.{ℕ, zero, suc, _+_, _*_, _-_, _≤_, _<_}
 use mathlib.Core.Path.{_≡_, refl, ap, sym, _∙_}
 use mathlib.Core.List.{List, [], _∷_, _++_}
-use mathlib.Core.Bool.{Bool, false}
+use mathlib.Core.Bool.{Bool, true, false}
 use native.Mathlib.Omega.{arith}
 use native.Mathlib.Numerals.{add-one}
 use native.Mathlib.Nat.{add-suc, add-zero, suc-sub-suc, sub-zero, zero-sub, zero-add}
 use lib.Dec.{eqb, lit<}
 use lib.ListN.{length, getD, take, drop, length-append}
 use lib.Seq.{drop-cons}
-use borrow.Author.Tests.{eq-eqb, ne-eqb}
+use borrow.Author.Tests.{eq-eqb, ne-eqb, eqb-true}
 use Rattle.words.specs.Choice.{both}
 use Rattle.words.specs.Numbers.{numberAt, zeros, Bytes}
 use Rattle.words.specs.Splices.{splice}
-use Rattle.words.proofs.Laws.{zeros-length, no-bytes, one-byte, append-bytes}
+use Rattle.words.proofs.Laws.{both-true, zeros-length, no-bytes, one-byte, append-bytes}
 use Rattle.key.specs.Keys.{keyBytes}
 use Rattle.key.specs.declared.Key.{Key}
 use Rattle.key.proofs.Laws.{key-length}
@@ -58,6 +58,21 @@ module _ (n : ℕ) (s : List ℕ) (i : ℕ) (h : i + n ≤ length s) where
   pub zero-off : (numberAt n s i ≡ 0 → ⊥) → false ≡ allZero (drop i s)
   zero-off e = sym (zero-number n s i h ∙ rw (ne-eqb _ _ e))
 
+-- zeros are all zero, and what is all zero is zeros
+pub all-zero : (n : ℕ) → allZero (zeros n) ≡ true
+unfolding allZero zeros
+all-zero zero = refl
+all-zero (suc n) = all-zero n
+
+pub zero-all : (s : List ℕ) → allZero s ≡ true → s ≡ zeros (length s)
+unfolding allZero zeros
+zero-all [] e = refl
+zero-all (x ∷ s) e =
+    let b = both-true (eqb x 0) (allZero s) e in
+    let p : x ≡ 0 = eqb-true x 0 (b .0) in
+    let q = zero-all s (b .1) in
+    cc
+
 -- ---- what is written over zeros
 
 pub drop-zeros : (n m : ℕ) → drop n (zeros m) ≡ zeros (m - n)
@@ -72,12 +87,12 @@ take-zeros zero m h = refl
 take-zeros (suc n) zero h = absurd (omega arith)
 take-zeros (suc n) (suc m) h = ap (λ (l : List ℕ). 0 ∷ l) (take-zeros n m (omega arith))
 
-splice-zeros : (c : List ℕ) → splice (zeros slotLength) 0 c ≡ filled c
+pub splice-zeros : (n : ℕ) (c : List ℕ) → splice (zeros n) 0 c ≡ c ++ zeros (n - length c)
 unfolding splice
-splice-zeros c = rw (zero-add, drop-zeros (length c) slotLength)
+splice-zeros n c = rw (zero-add, drop-zeros (length c) n)
 
 pub over-zeros : (d r c : List ℕ) → d ≡ zeros slotLength → r ≡ splice d 0 c → r ≡ filled c
-over-zeros d r c p q = q ∙ ap (λ (l : List ℕ). splice l 0 c) p ∙ splice-zeros c
+over-zeros d r c p q = q ∙ ap (λ (l : List ℕ). splice l 0 c) p ∙ splice-zeros slotLength c
 
 filled-length : (c : List ℕ) → length c ≤ slotLength → length (filled c) ≡ slotLength
 filled-length c h = simp (length-append, zeros-length) (omega arith)

@@ -1,4 +1,4 @@
--- Values as bytes, and what is read as one (document 01, "Keys, values, messages").
+-- Values as bytes, what is read as one, and the tests on values (document 01, "Keys, values, messages").
 use Prim.Native.Nat.{ℕ, _+_, _-_, _^_, _<_}
 use mathlib.Core.List.{List, [], _∷_, _++_}
 use mathlib.Core.Bool.{Bool, true, false}

@@ -2,11 +2,12 @@
 // public call. What it must write is in the file stdout, which the second program writes too.
 ghost use mathlib.Core.Path.{_≡_};
 ghost use lib.ListN.{length};
+use words::wide;
 
-// A message of the most bytes that is refused.
+// One byte more than the longest message of the public call.
 const ROOM: usize = 65537;
 
-fn room() -> [u8; 65537]
+fn room() -> [u8; ROOM]
     ensures { λ r. ⌜ 65537 ≡ length r ⌝ }
 {
     [0; ROOM]
@@ -21,10 +22,6 @@ fn fill(p: &mut [u8]) {
         x = x % 256 + 7;
         i += 1;
     }
-}
-
-fn wide(x: u8) -> u64 {
-    x as u64
 }
 
 fn show_bytes(b: &[u8]) {

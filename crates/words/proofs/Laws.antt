@@ -12,7 +12,7 @@ use lib.Arith.{mod-mul, digits-lt, digits-div, digits-mod}
 use lib.ListN.{length, getD, take, drop, set, length-append, length-take, length-drop, length-replicate, take-append-drop, List·getD-append, List·getD-eq-default}
 use lib.Seq.{take-append-seam, drop-append-add, drop-drop, drop-length, set-split, getD-at, getD-append-add, getD-drop, take-suc, take-at, take-all, length-take-le, take-add, getD-take}
 use Rattle.words.specs.Choice.{pick, both}
-use Rattle.words.specs.Numbers.{numberAt, bytesOf, fourWords, zeros, Bytes}
+use Rattle.words.specs.Numbers.{numberAt, bytesOf, twoWords, fourWords, zeros, Bytes}
 use Rattle.words.specs.Splices.{splice, part}
 
 -- ---- numbers
@@ -222,9 +222,37 @@ number-at n x at p r e h =
 pub part-join : (s : List ℕ) (at m to n : ℕ) → at + m ≡ to → part s at m ++ part s to n ≡ part s at (m + n)
 part-join s at m to n e = rw (← e, take-add m n (drop at s), drop-drop)
 
+-- what makes a part, and what makes the part behind it
+pub part-step : (s : List ℕ) (at m to n k : ℕ) (x y : List ℕ) → x ≡ part s at m → y ≡ part s to n → at + m ≡ to → m + n ≡ k → x ++ y ≡ part s at k
+part-step s at m to n k x y p q e f = rw (p, q) (part-join s at m to n e ∙ ap (part s at) f)
+
 -- the part from a place on is all that is left there
 pub part-rest : (s : List ℕ) (at : ℕ) → part s at (length s - at) ≡ drop at s
 part-rest s at = take-all (length s - at) (drop at s) (simp length-drop (omega arith))
+
+-- ---- two words side by side
+
+pub two-length : (a b : ℕ) → length (twoWords a b) ≡ 16
+two-length a b = simp (length-append, bytes-length)
+
+-- two words stand at a place
+pub record TwoAt (s : List ℕ) (at a b : ℕ) : Type 0 where
+  pub first : numberAt 8 s at ≡ a
+  pub second : numberAt 8 s (at + 8) ≡ b
+
+-- what is written as two words is read as those
+pub two-at : (a b at : ℕ) (p r : List ℕ) → length p ≡ at → a < 2 ^ 64 → b < 2 ^ 64 → TwoAt (p ++ (twoWords a b ++ r)) at a b
+two-at a b at p r e ha hb =
+    record {
+      first = ap (λ (s : List ℕ). numberAt 8 s at) (simp append-assoc) ∙ number-at 8 a at p (bytesOf 8 b ++ r) e ha;
+      second =
+          ap (λ (s : List ℕ). numberAt 8 s (at + 8)) (simp append-assoc)
+          ∙ number-at 8 b (at + 8) (p ++ bytesOf 8 a) r (simp (length-append, bytes-length, e)) hb;
+    }
+
+-- what is read as two words is written as those bytes
+pub two-back : (s : List ℕ) (at : ℕ) → Bytes s → at + 16 ≤ length s → twoWords (numberAt 8 s at) (numberAt 8 s (at + 8)) ≡ part s at 16
+two-back s at b h = rw (bytes-back 8 s at b (omega arith), bytes-back 8 s (at + 8) b (omega arith)) (part-join s at 8 (at + 8) 8 refl)
 
 -- ---- four words side by side
 
@@ -242,35 +270,27 @@ pub record FourAt (s : List ℕ) (at a b c d : ℕ) : Type 0 where
 pub four-at : (a b c d at : ℕ) (p r : List ℕ) → length p ≡ at → a < 2 ^ 64 → b < 2 ^ 64 → c < 2 ^ 64 → d < 2 ^ 64
     → FourAt (p ++ (fourWords a b c d ++ r)) at a b c d
 four-at a b c d at p r e ha hb hc hd =
+    let x = two-at a b at p (twoWords c d ++ r) e ha hb in
+    let y = two-at c d (at + 16) (p ++ twoWords a b) r (simp (length-append, bytes-length, e)) hc hd in
+    let f : p ++ (fourWords a b c d ++ r) ≡ p ++ (twoWords a b ++ (twoWords c d ++ r)) = simp append-assoc in
+    let g : p ++ (fourWords a b c d ++ r) ≡ (p ++ twoWords a b) ++ (twoWords c d ++ r) = simp append-assoc in
     record {
-      first = ap (λ (s : List ℕ). numberAt 8 s at) (simp append-assoc) ∙ number-at 8 a at p (bytesOf 8 b ++ (bytesOf 8 c ++ (bytesOf 8 d ++ r))) e ha;
-      second =
-          ap (λ (s : List ℕ). numberAt 8 s (at + 8)) (simp append-assoc)
-          ∙ number-at 8 b (at + 8) (p ++ bytesOf 8 a) (bytesOf 8 c ++ (bytesOf 8 d ++ r)) (simp (length-append, bytes-length, e)) hb;
-      third =
-          ap (λ (s : List ℕ). numberAt 8 s (at + 16)) (simp append-assoc)
-          ∙ number-at 8 c (at + 16) (p ++ (bytesOf 8 a ++ bytesOf 8 b)) (bytesOf 8 d ++ r) (simp (length-append, bytes-length, e)) hc;
-      fourth =
-          ap (λ (s : List ℕ). numberAt 8 s (at + 24)) (simp append-assoc)
-          ∙ number-at 8 d (at + 24) (p ++ (bytesOf 8 a ++ (bytesOf 8 b ++ bytesOf 8 c))) r (simp (length-append, bytes-length, e)) hd;
+      first = ap (λ (s : List ℕ). numberAt 8 s at) f ∙ x .first;
+      second = ap (λ (s : List ℕ). numberAt 8 s (at + 8)) f ∙ x .second;
+      third = ap (λ (s : List ℕ). numberAt 8 s (at + 16)) g ∙ y .first;
+      fourth = ap (λ (s : List ℕ). numberAt 8 s (at + 24)) g ∙ rw (add-assoc at 16 8) at (y .second);
     }
 
 -- what is read as four words is written as those bytes
 pub four-back : (s : List ℕ) (at : ℕ) → Bytes s → at + 32 ≤ length s
     → fourWords (numberAt 8 s at) (numberAt 8 s (at + 8)) (numberAt 8 s (at + 16)) (numberAt 8 s (at + 24)) ≡ part s at 32
 four-back s at b h =
-    rw (bytes-back 8 s at b (omega arith), bytes-back 8 s (at + 8) b (omega arith), bytes-back 8 s (at + 16) b (omega arith), bytes-back 8 s (at + 24) b (omega arith))
-    (ap (λ (l : List ℕ). part s at 8 ++ (part s (at + 8) 8 ++ l)) (part-join s (at + 16) 8 (at + 24) 8 (omega arith))
-    ∙ ap (λ (l : List ℕ). part s at 8 ++ l) (part-join s (at + 8) 8 (at + 16) 16 (omega arith))
-    ∙ part-join s at 8 (at + 8) 24 refl)
+    sym (append-assoc (bytesOf 8 (numberAt 8 s at)) (bytesOf 8 (numberAt 8 s (at + 8))) _)
+    ∙ part-step s at 16 (at + 16) 16 32 _ _ (two-back s at b (omega arith)) (rw (add-assoc at 16 8) at (two-back s (at + 16) b (omega arith))) refl refl
 
 -- one byte is a part of one byte
 pub part-one : (s : List ℕ) (at : ℕ) → at < length s → part s at 1 ≡ getD s at 0 ∷ []
 part-one s at h = part-suc s at 0 (omega arith) ∙ rw add-zero
-
--- what makes a part, and what makes the part behind it
-pub part-step : (s : List ℕ) (at m to n k : ℕ) (x y : List ℕ) → x ≡ part s at m → y ≡ part s to n → at + m ≡ to → m + n ≡ k → x ++ y ≡ part s at k
-part-step s at m to n k x y p q e f = rw (p, q) (part-join s at m to n e ∙ ap (part s at) f)
 
 -- ---- choices
 

@@ -19,6 +19,11 @@ unfoldable pub fourAt : List ℕ → ℕ → Four
 fourAt s at =
     record { first = numberAt 8 s at; second = numberAt 8 s (at + 8); third = numberAt 8 s (at + 16); fourth = numberAt 8 s (at + 24) }
 
+-- two words side by side, as a set key and a tag have them
+abbrev pub twoWords : ℕ → ℕ → List ℕ
+twoWords a b = bytesOf 8 a ++ bytesOf 8 b
+
+-- and four
 abbrev pub fourWords : ℕ → ℕ → ℕ → ℕ → List ℕ
 fourWords a b c d = bytesOf 8 a ++ (bytesOf 8 b ++ (bytesOf 8 c ++ bytesOf 8 d))
 

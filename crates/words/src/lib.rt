@@ -1,5 +1,6 @@
-// Numbers in lent bytes, high byte first: read and written in place, and nothing else touched.
-// The readers and writers ask that the bytes are there: they are inner, for the crates above.
+// Numbers in lent bytes, high byte first, and the small sums and tests that every layer makes.
+// Promises upward: what is read is the number that the bytes make, and what is written replaces exactly its bytes. The readers and writers
+// ask that the bytes are there: they are inner, for the crates above.
 ghost use mathlib.Core.Path.{_≡_};
 ghost use mathlib.Core.List.{[], _∷_};
 ghost use Prim.Native.Nat.{_+_, _*_, _-_, _^_, _≤_, _<_};

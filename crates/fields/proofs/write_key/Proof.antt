@@ -1,10 +1,9 @@
 use Rattle.key.proofs.Laws.{key-length}
 use Rattle.words.proofs.Laws.{take-splice}
 use lib.Seq.{take-all}
-use lib.ListN.{length, take}
+use lib.ListN.{take}
 use Prim.Native.Nat.{ℕ}
-use mathlib.Core.List.{List}
-use mathlib.Core.Path.{_≡_, sym, ap, _∙_}
+use mathlib.Core.Path.{sym, ap, _∙_}
 use native.Mathlib.Omega.{arith}
 use borrow.Author.Needs.{needs}
 use Rattle.fields.proofs.write_key.Statement.{statement}

@@ -1,4 +1,4 @@
-use Rattle.flat.proofs.Laws.{set-length}
+use Rattle.hash.proofs.Laws.{set-length}
 use Rattle.flat.specs.Flats.{frontBytes}
 use Rattle.words.proofs.Laws.{splice-three, bytes-length}
 use borrow.Author.Needs.{needs}

@@ -3,7 +3,7 @@ use Rattle.words.proofs.Laws.{splice-step, back-as, zeros-length, part-length}
 use Rattle.words.specs.Numbers.{zeros}
 use mathlib.Core.List.{[], _∷_}
 use Prim.Native.Nat.{_+_}
-use mathlib.Core.Path.{_≡_, refl, sym, ap, _∙_}
+use mathlib.Core.Path.{refl, ap, _∙_}
 use borrow.Author.Needs.{needs}
 use Rattle.flat.proofs.put_old.Statement.{statement}
 use Rattle.flat.proofs.put_old.Tie as tie

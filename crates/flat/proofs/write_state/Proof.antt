@@ -1,7 +1,6 @@
-use Rattle.flat.proofs.Laws.{front-length, tally-length, state-length, splice-all}
+use Rattle.flat.proofs.Laws.{front-length, tally-length, state-length}
 use Rattle.flat.specs.Flats.{stateBytes}
-use Rattle.words.proofs.Laws.{splice-three}
-use native.Mathlib.Omega.{arith}
+use Rattle.words.proofs.Laws.{splice-all, splice-three}
 use mathlib.Core.Path.{_∙_, sym}
 use borrow.Author.Needs.{needs}
 use Rattle.flat.proofs.write_state.Statement.{statement}

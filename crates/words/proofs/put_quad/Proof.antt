@@ -2,43 +2,31 @@ use Rattle.words.proofs.Laws.{put-join}
 use borrow.Author.Needs.{needs}
 use Rattle.words.proofs.put_quad.Statement.{statement}
 use Rattle.words.proofs.put_quad.Tie as tie
-use Rattle.words.proofs.put_quad.Reads as reads
-use Rattle.words.proofs.put_quad.Lts as lts
-use Rattle.words.proofs.put_byte.Reads as put-byte-reads
 
--- src/lib.rt:134:5
 put-byte-requires : tie.Need-put-byte-requires
 put-byte-requires c κs = search needs
 
--- src/lib.rt:135:17
 add-put-byte : tie.Need-add-put-byte
 add-put-byte c = search needs
 
--- src/lib.rt:135:5
 put-byte-requires-2 : tie.Need-put-byte-requires-2
 put-byte-requires-2 c κs = search needs
 
--- src/lib.rt:136:17
 add-put-byte-2 : tie.Need-add-put-byte-2
 add-put-byte-2 c = search needs
 
--- src/lib.rt:136:5
 put-byte-requires-3 : tie.Need-put-byte-requires-3
 put-byte-requires-3 c κs = search needs
 
--- src/lib.rt:137:17
 add-put-byte-3 : tie.Need-add-put-byte-3
 add-put-byte-3 c = search needs
 
--- src/lib.rt:137:5
 put-byte-requires-4 : tie.Need-put-byte-requires-4
 put-byte-requires-4 c κs = search needs
 
--- src/lib.rt:128:1
 same-length : tie.Need-same-length
 same-length c = search needs
 
--- src/lib.rt:128:1
 returns : tie.Need-returns
 returns c = put-join 3 1 _ _ _ _ _ (put-join 2 1 _ _ _ _ _ (put-join 1 1 _ _ _ _ _ (c .before .before .before .before .before .before .before .before .before .before .before .before .before .before .put-byte .ensures) (c .before .before .before .before .before .before .before .before .before .before .put-byte2 .ensures) (search needs)) (c .before .before .before .before .before .before .put-byte3 .ensures) (search needs)) (c .before .before .put-byte4 .ensures) (search needs)
 

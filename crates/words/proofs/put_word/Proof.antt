@@ -2,75 +2,55 @@ use Rattle.words.proofs.Laws.{put-join}
 use borrow.Author.Needs.{needs}
 use Rattle.words.proofs.put_word.Statement.{statement}
 use Rattle.words.proofs.put_word.Tie as tie
-use Rattle.words.proofs.put_word.Reads as reads
-use Rattle.words.proofs.put_word.Lts as lts
-use Rattle.words.proofs.put_byte.Reads as put-byte-reads
 
--- src/lib.rt:151:5
 put-byte-requires : tie.Need-put-byte-requires
 put-byte-requires c κs = search needs
 
--- src/lib.rt:152:17
 add-put-byte : tie.Need-add-put-byte
 add-put-byte c = search needs
 
--- src/lib.rt:152:5
 put-byte-requires-2 : tie.Need-put-byte-requires-2
 put-byte-requires-2 c κs = search needs
 
--- src/lib.rt:153:17
 add-put-byte-2 : tie.Need-add-put-byte-2
 add-put-byte-2 c = search needs
 
--- src/lib.rt:153:5
 put-byte-requires-3 : tie.Need-put-byte-requires-3
 put-byte-requires-3 c κs = search needs
 
--- src/lib.rt:154:17
 add-put-byte-3 : tie.Need-add-put-byte-3
 add-put-byte-3 c = search needs
 
--- src/lib.rt:154:5
 put-byte-requires-4 : tie.Need-put-byte-requires-4
 put-byte-requires-4 c κs = search needs
 
--- src/lib.rt:155:17
 add-put-byte-4 : tie.Need-add-put-byte-4
 add-put-byte-4 c = search needs
 
--- src/lib.rt:155:5
 put-byte-requires-5 : tie.Need-put-byte-requires-5
 put-byte-requires-5 c κs = search needs
 
--- src/lib.rt:156:17
 add-put-byte-5 : tie.Need-add-put-byte-5
 add-put-byte-5 c = search needs
 
--- src/lib.rt:156:5
 put-byte-requires-6 : tie.Need-put-byte-requires-6
 put-byte-requires-6 c κs = search needs
 
--- src/lib.rt:157:17
 add-put-byte-6 : tie.Need-add-put-byte-6
 add-put-byte-6 c = search needs
 
--- src/lib.rt:157:5
 put-byte-requires-7 : tie.Need-put-byte-requires-7
 put-byte-requires-7 c κs = search needs
 
--- src/lib.rt:158:17
 add-put-byte-7 : tie.Need-add-put-byte-7
 add-put-byte-7 c = search needs
 
--- src/lib.rt:158:5
 put-byte-requires-8 : tie.Need-put-byte-requires-8
 put-byte-requires-8 c κs = search needs
 
--- src/lib.rt:141:1
 same-length : tie.Need-same-length
 same-length c = search needs
 
--- src/lib.rt:141:1
 returns : tie.Need-returns
 returns c = put-join 7 1 _ _ _ _ _ (put-join 6 1 _ _ _ _ _ (put-join 5 1 _ _ _ _ _ (put-join 4 1 _ _ _ _ _ (put-join 3 1 _ _ _ _ _ (put-join 2 1 _ _ _ _ _ (put-join 1 1 _ _ _ _ _ (c .before .before .before .before .before .before .before .before .before .before .before .before .before .before .before .before .before .before .before .before .before .before .before .before .before .before .before .before .before .before .put-byte .ensures) (c .before .before .before .before .before .before .before .before .before .before .before .before .before .before .before .before .before .before .before .before .before .before .before .before .before .before .put-byte2 .ensures) (search needs)) (c .before .before .before .before .before .before .before .before .before .before .before .before .before .before .before .before .before .before .before .before .before .before .put-byte3 .ensures) (search needs)) (c .before .before .before .before .before .before .before .before .before .before .before .before .before .before .before .before .before .before .put-byte4 .ensures) (search needs)) (c .before .before .before .before .before .before .before .before .before .before .before .before .before .before .put-byte5 .ensures) (search needs)) (c .before .before .before .before .before .before .before .before .before .before .put-byte6 .ensures) (search needs)) (c .before .before .before .before .before .before .put-byte7 .ensures) (search needs)) (c .before .before .put-byte8 .ensures) (search needs)
 

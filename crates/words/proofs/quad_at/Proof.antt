@@ -2,56 +2,40 @@ use Rattle.words.proofs.Laws.{number-join, number-one}
 use borrow.Author.Needs.{needs}
 use Rattle.words.proofs.quad_at.Statement.{statement}
 use Rattle.words.proofs.quad_at.Tie as tie
-use Rattle.words.proofs.quad_at.Reads as reads
-use Rattle.words.proofs.quad_at.Lts as lts
-use Rattle.words.proofs.pair_at.Reads as pair-at-reads
-use Rattle.words.proofs.wide.Reads as wide-reads
 
--- src/lib.rt:65:6
 pair-at-requires : tie.Need-pair-at-requires
 pair-at-requires c κs = search needs
 
--- src/lib.rt:65:6
 mul-result : tie.Need-mul-result
 mul-result c = search needs
 
--- src/lib.rt:65:44
 add-wide : tie.Need-add-wide
 add-wide c = search needs
 
--- src/lib.rt:65:42
 shared-slice-read-wide : tie.Need-shared-slice-read-wide
 shared-slice-read-wide c = search needs
 
--- src/lib.rt:65:37
 wide-requires : tie.Need-wide-requires
 wide-requires c κs = search needs
 
--- src/lib.rt:65:6
 add-result : tie.Need-add-result
 add-result c = search needs
 
--- src/lib.rt:65:5
 mul-result-2 : tie.Need-mul-result-2
 mul-result-2 c = search needs
 
--- src/lib.rt:65:77
 add-wide-2 : tie.Need-add-wide-2
 add-wide-2 c = search needs
 
--- src/lib.rt:65:75
 shared-slice-read-wide-2 : tie.Need-shared-slice-read-wide-2
 shared-slice-read-wide-2 c = search needs
 
--- src/lib.rt:65:70
 wide-requires-2 : tie.Need-wide-requires-2
 wide-requires-2 c κs = search needs
 
--- src/lib.rt:65:5
 add-result-2 : tie.Need-add-result-2
 add-result-2 c = search needs
 
--- src/lib.rt:61:1
 returns : tie.Need-returns
 returns c = (number-join 3 1 _ _ _ _ (number-join 2 1 _ _ _ _ (c .before .before .before .before .pair-at .ensures .0) (number-one _ _ _ (c .before .before .wide .ensures .0))) (number-one _ _ _ (c .wide2 .ensures .0)), search needs)
 

@@ -1,19 +1,15 @@
 // The digest of a value and the tag of a message, each worked from bytes in a buffer of its own; and the set key.
 // Promises upward: they are the standards' over the forms' bytes, and nothing above looks inside.
 ghost use mathlib.Core.Path.{_≡_};
-ghost use Rattle.sha256.specs.Sha256.{hashBytes};
 ghost use Rattle.aes.specs.Aes.{expansion};
 ghost use Rattle.cmac.specs.Cmac.{cmac};
 ghost use Rattle.cmac.specs.Tags.{tagWords};
-ghost use Rattle.value.specs.Values.{digestAt};
 ghost use Rattle.message.specs.Messages.{messageBytes};
 ghost use Rattle.hash.specs.Hashes.{digestOf, setBytes, setKey};
 use cmac::Tag;
 use message::Message;
-use sha256::Hash;
 use value::Digest;
 use value::Value;
-use words::joined;
 use words::put_word;
 use words::word_at;
 
@@ -28,25 +24,19 @@ pub const SET_KEY_BYTES: usize = 16;
 // Where the set key's second word stands in its bytes.
 const SECOND_WORD: usize = 8;
 
-// A hash value as a digest: eight words are four, and no byte is written.
-fn digest_words(s: Hash) -> Digest
-    ensures { λ r. ⌜ r ≡ digestAt (hashBytes s) 0 ⌝ }
-{
-    Digest {
-        d0: joined(s.a, s.b),
-        d1: joined(s.c, s.d),
-        d2: joined(s.e, s.f),
-        d3: joined(s.g, s.h),
-    }
-}
-
-// The digest of a value.
+// The digest of a value: eight words are four, and no byte of it is written.
 pub fn digest_of(v: Value) -> Digest
     ensures { λ r. ⌜ r ≡ digestOf v ⌝ }
 {
     let mut b = [0u8; value::VALUE_BYTES];
     let n = value::write_value(v, &mut b, 0);
-    digest_words(sha256::hash_of(&b[..n]))
+    let w = sha256::hash_words(sha256::hash_of(&b[..n]));
+    Digest {
+        d0: w.first,
+        d1: w.second,
+        d2: w.third,
+        d3: w.fourth,
+    }
 }
 
 // The set key that 16 bytes make.

@@ -1,49 +1,18 @@
--- Laws of the definitions: one more word of a schedule, one more block. Assumes nothing.
+-- Laws of the definitions: padding, one more block, a hash value as four words. Assumes nothing.
 use mathlib.Core.Path.{_≡_, refl, ap, ap₂, sym, _∙_}
-use mathlib.Core.List.{List, [], _∷_, _++_, append-assoc}
-use Prim.Native.Nat.{ℕ, zero, suc, _+_, _-_, _*_, _/_, _%_, _^_, _≤_, _<_, min}
+use mathlib.Core.List.{List, [], _∷_, _++_, append-assoc, append-nil}
+use Prim.Native.Nat.{ℕ, zero, suc, _+_, _-_, _*_, _/_, _%_, _^_, _≤_, _<_}
 use native.Mathlib.Numerals.{add-one}
-use native.Mathlib.Nat.{add-assoc, add-zero, add-suc, mul-comm}
-use Rattle.sha256.specs.declared.Hash.{Hash}
+use native.Mathlib.Nat.{mul-comm, zero-add}
 use native.Mathlib.Omega.{arith}
-use lib.ListN.{length, take, drop, getD, set, replicate, length-set, length-drop, length-append, length-replicate, replicate-append-replicate, List·getD-append}
-use lib.Seq.{take-suc-set, getD-take, drop-append-le, take-append-le, take-append-add, set-at, set-append-seam, append-snoc, take-suc, take-at, length-take-le, take-take, take-all, take-length, drop-drop, sets, sets-eq}
-use mathlib.Core.Bool.{Bool, true, false}
-use lib.Dec.{leb}
-use borrow.Author.Tests.{leb-true, leb-false, le-leb, lt-leb}
-use Rattle.words.specs.Choice.{pick}
-use Rattle.words.specs.Numbers.{numberAt, bytesOf}
+use lib.Arith.{digits-lt, digits-div, digits-mod}
+use lib.ListN.{length, take, drop, getD, set, replicate, length-drop, length-append, length-replicate, replicate-append-replicate}
+use lib.Seq.{drop-append-le, take-append-le, take-append-add, set-at, set-append-seam, append-snoc, take-suc, take-at, length-take-le, take-take, take-all, take-length, drop-length, drop-drop}
+use Rattle.words.specs.Numbers.{numberAt, bytesOf, fourAt, fourWords, Bytes}
 use Rattle.words.specs.Splices.{splice}
-use Rattle.words.proofs.Laws.{bytes-low, bytes-length, take-splice}
-use Rattle.sha256.specs.Sha256.{words, next, schedule, K, round, rounds, compress, block, blocks, padding, after, padded}
-use Rattle.sha256.specs.Steps.{upto, grown, extended}
-
--- one more store appends to what is written
-pub stored : (w : List ℕ) (i v : ℕ) → i < length w → take (i + 1) (set w i v) ≡ take i w ++ v ∷ []
-stored w i v h = rw (add-one, take-suc-set)
-
-pub words-more : (b w : List ℕ) (i v : ℕ) → i < length w → take i w ≡ words b i → v ≡ numberAt 4 b (4 * i) → take (i + 1) (set w i v) ≡ words b (i + 1)
-unfolding words
-words-more b w i v h e f = stored w i v h ∙ ap₂ (λ (l : List ℕ) (x : ℕ). l ++ x ∷ []) e f ∙ sym (ap (words b) (add-one i))
-
--- the next word is made of words that are there
-pub next-take : (w : List ℕ) (j : ℕ) → next (take (16 + j) w) j ≡ next w j
-unfolding next
-next-take w j =
-    rw (
-      getD-take (16 + j) w (j + 14) 0 (omega arith),
-      getD-take (16 + j) w (j + 9) 0 (omega arith),
-      getD-take (16 + j) w (j + 1) 0 (omega arith),
-      getD-take (16 + j) w j 0 (omega arith),
-    )
-
-pub schedule-more : (m w : List ℕ) (j v : ℕ) → 16 + j < length w → take (16 + j) w ≡ schedule m j → v ≡ next w j → take (16 + (j + 1)) (set w (16 + j) v) ≡ schedule m (j + 1)
-unfolding schedule
-schedule-more m w j v h e f =
-    let p : 16 + (j + 1) ≡ (16 + j) + 1 = omega arith in
-    ap (λ (k : ℕ). take k (set w (16 + j) v)) p ∙ stored w (16 + j) v h
-    ∙ ap₂ (λ (l : List ℕ) (x : ℕ). l ++ x ∷ []) e (f ∙ sym (next-take w j) ∙ ap (λ (l : List ℕ). next l j) e)
-    ∙ sym (ap (schedule m) (add-one j))
+use Rattle.words.specs.declared.Four.{Four}
+use Rattle.words.proofs.Laws.{bytes-low, bytes-length, bytes-split, take-splice, splice-all, four-at, four-back, append-bytes, number-bytes}
+use Rattle.sha256.specs.Sha256.{Hash, compress, block, blocks, padding, after, padded, hashBytes}
 
 -- ---- what the loop of `ending` copies, and its stores after it
 pub copied : (t b : List ℕ) (i : ℕ) → i < length t → length t < 64 → b ≡ take i t ++ replicate (128 - i) 0 → set b i (getD t i 0) ≡ take (i + 1) t ++ replicate (128 - (i + 1)) 0
@@ -157,103 +126,61 @@ module _ (m b : List ℕ) (full : length b ≡ 128) (g : take (64 * blocks (leng
       let k : 64 * blocks (length (tailOf m)) ≡ 128 = omega arith in
       sym (ap (after (padded m)) n ∙ two-more m b full (rest m (tailOf m) b (length m * 8 % 2 ^ 64) (tail-is m) (bits-told (length m)) g ∙ ap (λ (j : ℕ). take j b) k))
 
--- ---- rounds, some at a time
-rounds-upto : (k w : List ℕ) (s : Hash) (i n : ℕ) → k ≡ K → rounds w s (i + n) ≡ upto k w i (rounds w s i) n
-unfolding rounds upto
-rounds-upto k w s i zero e = ap (rounds w s) (add-zero i)
-rounds-upto k w s i (suc n) e = ap (rounds w s) (add-suc i n) ∙ ap₂ (λ (l : List ℕ) (t : Hash). round (getD l (i + n) 0) (getD w (i + n) 0) t) (sym e) (rounds-upto k w s i n e)
+-- ---- a hash value as four words
 
-pub more-rounds : (k w : List ℕ) (s t u : Hash) (i n : ℕ) → k ≡ K → t ≡ rounds w s i → u ≡ upto k w i t n → u ≡ rounds w s (i + n)
-more-rounds k w s t u i n e f g = g ∙ ap (λ (x : Hash). upto k w i x n) f ∙ sym (rounds-upto k w s i n e)
+-- two numbers written side by side are one
+bytes-join : (m n a b : ℕ) → b < 256 ^ n → bytesOf m a ++ bytesOf n b ≡ bytesOf (m + n) (a * 256 ^ n + b)
+bytes-join m n a b h = sym (rw (digits-div a h, digits-mod a h) at (bytes-split m n (a * 256 ^ n + b)))
 
--- what is known of two schedules up to round i + n is enough for these rounds
-upto-agree : (k w v : List ℕ) (i n : ℕ) (s : Hash) → ((j : ℕ) → j < i + n → getD w j 0 ≡ getD v j 0) → upto k w i s n ≡ upto k v i s n
-unfolding upto
-upto-agree k w v i zero s f = refl
-upto-agree k w v i (suc n) s f =
-    ap₂ (round (getD k (i + n) 0)) (f (i + n) (omega arith)) (upto-agree k w v i n s (λ j h. f j (omega arith)))
+-- what is known of two words of 32 bits made one of 64
+abbrev Joined : ℕ → ℕ → ℕ → Type 0
+Joined r a b = (r ≡ a * 2 ^ 32 + b) × (a < 2 ^ 32) × (b < 2 ^ 32)
 
-schedule-length : (m : List ℕ) (n : ℕ) → length (schedule m n) ≡ length m + n
-unfolding schedule
-schedule-length m zero = sym (add-zero (length m))
-schedule-length m (suc n) = length-append (schedule m n) (next (schedule m n) n ∷ []) ∙ rw (schedule-length m n) (omega arith)
+joined-bytes : (r a b : ℕ) → Joined r a b → bytesOf 4 a ++ bytesOf 4 b ≡ bytesOf 8 r
+joined-bytes r a b j = bytes-join 4 4 a b (j .2) ∙ ap (bytesOf 8) (sym (j .0))
 
--- a schedule keeps what it has
-schedule-keeps : (m : List ℕ) (n d j : ℕ) → j < length m + n → getD (schedule m n) j 0 ≡ getD (schedule m (n + d)) j 0
-unfolding schedule
-schedule-keeps m n zero j h = rw add-zero
-schedule-keeps m n (suc d) j h =
-    schedule-keeps m n d j h
-    ∙ sym (List·getD-append (schedule m (n + d)) (next (schedule m (n + d)) (n + d) ∷ []) 0 j (rw schedule-length (omega arith)))
-    ∙ ap (λ (x : ℕ). getD (schedule m x) j 0) (sym (add-suc n d))
+joined-fits : (r a b : ℕ) → Joined r a b → r < 2 ^ 64
+joined-fits r a b j = rw (j .0) (digits-lt (j .1) (j .2))
 
--- the words that a turn of the loop has in hand are those of the whole schedule
-pub in-hand : (m w : List ℕ) (n j : ℕ) → length m ≡ 16 → n ≤ 48 → take (16 + n) w ≡ schedule m n → j < 16 + n → getD w j 0 ≡ getD (schedule m 48) j 0
-in-hand m w n j l h e k =
-    let d : n + (48 - n) ≡ 48 = omega arith in
-    sym (getD-take (16 + n) w j 0 k) ∙ ap (λ (x : List ℕ). getD x j 0) e
-    ∙ schedule-keeps m n (48 - n) j (omega arith) ∙ ap (λ (x : ℕ). getD (schedule m x) j 0) d
+in-pairs : (a b c d e f g h : List ℕ) → a ++ b ++ c ++ d ++ e ++ f ++ g ++ h ≡ (a ++ b) ++ ((c ++ d) ++ ((e ++ f) ++ (g ++ h)))
+in-pairs a b c d e f g h = simp append-assoc
 
--- the words of a schedule that are known when round i begins
-abbrev pub known : ℕ → ℕ
-known i = min i 48
+module _ (s : Hash) (x y z w : ℕ) (jx : Joined x (s .a) (s .b)) (jy : Joined y (s .c) (s .d)) (jz : Joined z (s .e) (s .f)) (jw : Joined w (s .g) (s .h)) where
+  same-bytes : hashBytes s ≡ fourWords x y z w
+  same-bytes =
+      in-pairs (bytesOf 4 (s .a)) (bytesOf 4 (s .b)) (bytesOf 4 (s .c)) (bytesOf 4 (s .d)) (bytesOf 4 (s .e)) (bytesOf 4 (s .f)) (bytesOf 4 (s .g)) (bytesOf 4 (s .h))
+      ∙ rw (joined-bytes x (s .a) (s .b) jx, joined-bytes y (s .c) (s .d) jy, joined-bytes z (s .e) (s .f) jz, joined-bytes w (s .g) (s .h) jw)
 
-four-more : (m w : List ℕ) (j : ℕ) → length w ≡ 64 → j + 4 ≤ 48 → take (16 + j) w ≡ schedule m j
-    → take (16 + (j + 4)) (grown (grown (grown (grown w j) (j + 1)) (j + 2)) (j + 3)) ≡ schedule m (j + 4)
-four-more m w j l h e =
-    let w1 = grown w j in
-    let w2 = grown w1 (j + 1) in
-    let w3 = grown w2 (j + 2) in
-    let e1 = schedule-more m w j (next w j) (omega arith) e refl in
-    let e2 = schedule-more m w1 (j + 1) (next w1 (j + 1)) (simp length-set (omega arith)) e1 refl in
-    let e3 = schedule-more m w2 (j + 2) (next w2 (j + 2)) (simp length-set (omega arith)) (rw (add-assoc j 1 1) at e2) refl in
-    rw (add-assoc j 3 1) at (schedule-more m w3 (j + 3) (next w3 (j + 3)) (simp length-set (omega arith)) (rw (add-assoc j 2 1) at e3) refl)
+  pub words-joined : _≡_ {A = Four} (record { first = x; second = y; third = z; fourth = w }) (fourAt (hashBytes s) 0)
+  unfolding fourAt
+  words-joined =
+      let f = four-at x y z w 0 [] [] refl (joined-fits x _ _ jx) (joined-fits y _ _ jy) (joined-fits z _ _ jz) (joined-fits w _ _ jw) in
+      sym
+      (ap (λ (l : List ℕ). fourAt l 0) (same-bytes ∙ sym (append-nil (fourWords x y z w)))
+      ∙ (λ i. record { first = f .first i; second = f .second i; third = f .third i; fourth = f .fourth i }))
 
-module _ (m w : List ℕ) (i : ℕ) (l : length w ≡ 64) (h : i < 64) (f : i % 4 ≡ 0) (e : take (16 + known i) w ≡ schedule m (known i)) where
-  by-test : (t : Bool) → leb i 44 ≡ t
-      → take (16 + known (i + 4)) (pick t (grown (grown (grown (grown w i) (i + 1)) (i + 2)) (i + 3)) w) ≡ schedule m (known (i + 4))
-  by-test true p =
-      let b : i ≤ 44 = leb-true _ _ p in
-      let k : known i ≡ i = omega arith in
-      let n : known (i + 4) ≡ i + 4 = omega arith in
-      rw n (four-more m w i l (omega arith) (rw k at e))
-  by-test false p =
-      let b : 44 < i = leb-false _ _ p in
-      let k : known i ≡ 48 = omega arith in
-      let n : known (i + 4) ≡ 48 = omega arith in
-      rw n (rw k at e)
+-- ---- a hash value's bytes
 
-  pub extended-known : take (16 + known (i + 4)) (extended w i) ≡ schedule m (known (i + 4))
-  unfolding extended
-  extended-known = by-test (leb i 44) refl
+-- a list that is bytes, and a word of 32 bits behind it
+record Written (l : List ℕ) : Type 0 where
+  bytes : Bytes l
 
-pub turned : (k m v : List ℕ) (s t u : Hash) (i : ℕ) → length m ≡ 16 → k ≡ K → i < 64 → i % 4 ≡ 0 → take (16 + known (i + 4)) v ≡ schedule m (known (i + 4))
-    → t ≡ rounds (schedule m 48) s i → u ≡ upto k v i t 4 → u ≡ rounds (schedule m 48) s (i + 4)
-turned k m v s t u i l e h f g p q =
-    more-rounds k (schedule m 48) s t u i 4 e p
-    (q ∙ upto-agree k v (schedule m 48) i 4 t (λ j b. in-hand m v (known (i + 4)) j l (omega arith) g (omega arith)))
+then : {l : List ℕ} → Written l → (x : ℕ) → Written (l ++ bytesOf 4 x)
+then {l} w x = record { bytes = append-bytes l (bytesOf 4 x) (w .bytes) (number-bytes 4 x) }
 
--- what four stores leave
-pub extended-is : (w : List ℕ) (j a b c d : ℕ) → j ≤ 44 → a ≡ next w j → b ≡ next (set w (16 + j) a) (j + 1)
-    → c ≡ next (set (set w (16 + j) a) (16 + (j + 1)) b) (j + 2)
-    → d ≡ next (set (set (set w (16 + j) a) (16 + (j + 1)) b) (16 + (j + 2)) c) (j + 3)
-    → set (set (set (set w (16 + j) a) (16 + (j + 1)) b) (16 + (j + 2)) c) (16 + (j + 3)) d ≡ extended w j
-unfolding extended
-extended-is w j a b c d h p q r s = rw (s, r, q, p, le-leb j 44 h)
+pub hash-is-bytes : (s : Hash) → Bytes (hashBytes s)
+hash-is-bytes s =
+    let first : Written (bytesOf 4 (s .a)) = record { bytes = number-bytes 4 (s .a) } in
+    then (then (then (then (then (then (then first (s .b)) (s .c)) (s .d)) (s .e)) (s .f)) (s .g)) (s .h) .bytes
 
-pub extended-none : (w : List ℕ) (j : ℕ) → 44 < j → w ≡ extended w j
-unfolding extended
-extended-none w j h = rw (lt-leb j 44 h)
+pub hash-length : (s : Hash) → length (hashBytes s) ≡ 32
+hash-length s = simp (length-append, bytes-length)
 
-pub words-length : (b : List ℕ) (n : ℕ) → length (words b n) ≡ n
-unfolding words
-words-length b zero = refl
-words-length b (suc n) = length-append (words b n) (numberAt 4 b (4 * n) ∷ []) ∙ rw (words-length b n) (add-one n)
-
-pub extended-length : (w : List ℕ) (j : ℕ) → length (extended w j) ≡ length w
-unfolding extended
-extended-length w j = by-choice (leb j 44)
-  where
-    by-choice : (t : Bool) → length (pick t (grown (grown (grown (grown w j) (j + 1)) (j + 2)) (j + 3)) w) ≡ length w
-    by-choice true = simp length-set
-    by-choice false = refl
+pub hash-written : (s : Hash) (w : Four) (d r : List ℕ) → length d ≡ 32 → w ≡ fourAt (hashBytes s) 0
+    → r ≡ splice d 0 (fourWords (w .first) (w .second) (w .third) (w .fourth)) → r ≡ hashBytes s
+unfolding fourAt
+hash-written s w d r l p q =
+    let n : length (hashBytes s) ≡ 32 = hash-length s in
+    q ∙ ap (λ (x : Four). splice d 0 (fourWords (x .first) (x .second) (x .third) (x .fourth))) p
+    ∙ ap (splice d 0) (four-back (hashBytes s) 0 (hash-is-bytes s) (omega (arith, n)) ∙ take-all 32 (hashBytes s) (omega (arith, n)))
+    ∙ splice-all d (hashBytes s) (n ∙ sym l)

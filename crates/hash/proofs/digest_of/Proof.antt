@@ -20,11 +20,11 @@ slice-aggregate-hash-of c = written-length _ _ _ _ (c .before .before .write-val
 hash-of-requires : tie.Need-hash-of-requires
 hash-of-requires c κs = search needs
 
-digest-words-requires : tie.Need-digest-words-requires
-digest-words-requires c κs = search needs
+hash-words-requires : tie.Need-hash-words-requires
+hash-words-requires c κs = search needs
 
 returns : tie.Need-returns
-returns c = digest-is _ _ _ _ (written-front _ _ _ _ (c .before .before .before .before .write-value .ensures .0) (c .before .before .before .before .write-value .ensures .1) (value-length (c .before .before .before .before .before .before .args .v))) (c .before .hash-of .ensures) (c .digest-words .ensures)
+returns c = digest-is _ _ _ _ (written-front _ _ _ _ (c .before .before .before .before .write-value .ensures .0) (c .before .before .before .before .write-value .ensures .1) (value-length (c .before .before .before .before .before .before .args .v))) (c .before .hash-of .ensures) (c .hash-words .ensures)
 
 pub digest-of-spec : {M : Type 1} → statement M
 digest-of-spec =
@@ -35,5 +35,5 @@ digest-of-spec =
     array-share-prefix-b
     slice-aggregate-hash-of
     hash-of-requires
-    digest-words-requires
+    hash-words-requires
     returns)

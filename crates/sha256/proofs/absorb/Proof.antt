@@ -4,8 +4,7 @@ use Prim.Native.Nat.{ℕ, _+_, _-_, _*_, _/_, _≤_, _<_}
 use native.Mathlib.Omega.{arith}
 use native.Mathlib.Numerals.{add-one}
 use lib.ListN.{length, take, drop}
-use Rattle.sha256.specs.Sha256.{after, compress}
-use Rattle.sha256.specs.declared.Hash.{Hash}
+use Rattle.sha256.specs.Sha256.{Hash, after, compress}
 use Rattle.sha256.proofs.absorb.Statement.{statement}
 use Rattle.sha256.proofs.absorb.Tie as tie
 

@@ -1,8 +1,7 @@
 use Rattle.sha256.proofs.Laws.{one-block, two-blocks}
-use Rattle.sha256.specs.declared.Hash.{Hash}
-use Rattle.sha256.specs.Sha256.{K, compress, hashOf}
+use Rattle.sha256.specs.Sha256.{Hash, compress, hashOf}
 use lib.ListN.{take, drop}
-use mathlib.Core.Path.{ap, refl, _∙_}
+use mathlib.Core.Path.{ap, _∙_}
 use borrow.Author.Needs.{needs}
 use Rattle.sha256.proofs.hash_of.Statement.{statement}
 use Rattle.sha256.proofs.hash_of.Tie as tie
@@ -22,9 +21,11 @@ part-ending-end c = search needs
 ending-requires : tie.Need-ending-requires
 ending-requires c κs = search needs
 
+constants-requires : tie.Need-constants-requires
+constants-requires c κs = search needs
+
 absorb-requires : tie.Need-absorb-requires
-unfolding K
-absorb-requires c κs = refl
+absorb-requires c κs = search needs
 
 sub-compressed : tie.Need-sub-compressed
 sub-compressed c = search needs
@@ -36,8 +37,7 @@ part-compressed-end : tie.Need-part-compressed-end
 part-compressed-end c = search needs
 
 compressed-requires : tie.Need-compressed-requires
-unfolding K
-compressed-requires c κs = (refl, search needs)
+compressed-requires c κs = search needs
 
 sub-compressed-2 : tie.Need-sub-compressed-2
 sub-compressed-2 c = search needs
@@ -49,12 +49,11 @@ part-compressed-end-2 : tie.Need-part-compressed-end-2
 part-compressed-end-2 c = search needs
 
 compressed-requires-2 : tie.Need-compressed-requires-2
-unfolding K
-compressed-requires-2 c κs = (refl, search needs)
+compressed-requires-2 c κs = search needs
 
 returns : tie.Need-returns
 unfolding hashOf
-returns c = let e = c .before .before .before .before .before .before .before in
+returns c = let e = c .before .before .before .before .before .before .before .before in
     c .before .compressed .ensures
     ∙ ap (λ (s : Hash). compress s (take 64 (e .ending .result))) (c .before .before .before .before .before .absorb .ensures)
     ∙ one-block (e .before .before .before .args .m .now) (e .ending .result) (search needs) (e .ending .ensures) (c .if1 .taken)
@@ -62,7 +61,7 @@ returns c = let e = c .before .before .before .before .before .before .before in
 returns-2 : tie.Need-returns-2
 unfolding hashOf
 returns-2 c = let b = c .before .before .before .before .before in
-    let e = b .before .before .before .before .before .before in
+    let e = b .before .before .before .before .before .before .before in
     c .compressed2 .ensures
     ∙ ap (λ (s : Hash). compress s (take 64 (drop 64 (e .ending .result))))
     (b .compressed .ensures ∙ ap (λ (s : Hash). compress s (take 64 (e .ending .result))) (b .before .before .before .before .absorb .ensures))
@@ -77,6 +76,7 @@ hash-of-spec =
     part-ending-start
     part-ending-end
     ending-requires
+    constants-requires
     absorb-requires
     sub-compressed
     part-compressed-start

@@ -4,8 +4,8 @@ use mathlib.Core.List.{List}
 use lib.Dec.{leb}
 use lib.ListN.{getD, set}
 use Rattle.words.specs.Choice.{pick}
-use Rattle.sha256.specs.Sha256.{round, next}
-use Rattle.sha256.specs.declared.Hash.{Hash}
+use Rattle.compression.specs.Compression.{round, next}
+use Rattle.compression.specs.declared.Hash.{Hash}
 
 -- n rounds from round i on, with the constants k
 unfoldable pub upto : List ℕ → List ℕ → ℕ → Hash → ℕ → Hash

@@ -1,12 +1,12 @@
-use Rattle.sha256.proofs.Laws.{words-more}
-use Rattle.sha256.specs.Sha256.{words}
+use Rattle.compression.proofs.Laws.{words-more}
+use Rattle.compression.specs.Compression.{words}
 use lib.ListN.{length, take, length-set}
 use native.Mathlib.Omega.{arith}
 use Prim.Native.Nat.{_-_, _≤_}
 use mathlib.Core.Path.{_≡_, refl}
 use borrow.Author.Needs.{needs}
-use Rattle.sha256.proofs.loaded.Statement.{statement}
-use Rattle.sha256.proofs.loaded.Tie as tie
+use Rattle.compression.proofs.loaded.Statement.{statement}
+use Rattle.compression.proofs.loaded.Tie as tie
 
 abbrev Inv-loop : tie.InvT-loop
 Inv-loop b w₀ i₀ w i = (i ≤ 16) × (length w ≡ 64) × (take i w ≡ words b i)

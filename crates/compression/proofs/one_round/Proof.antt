@@ -1,7 +1,7 @@
 use borrow.Author.Needs.{needs}
-use Rattle.sha256.specs.Sha256.{round}
-use Rattle.sha256.proofs.one_round.Statement.{statement}
-use Rattle.sha256.proofs.one_round.Tie as tie
+use Rattle.compression.specs.Compression.{round}
+use Rattle.compression.proofs.one_round.Statement.{statement}
+use Rattle.compression.proofs.one_round.Tie as tie
 
 sum1-requires : tie.Need-sum1-requires
 sum1-requires c κs = search needs
@@ -38,7 +38,7 @@ wrapping-add-u32-requires-7 c κs = search needs
 
 returns : tie.Need-returns
 unfolding round
-returns c = cc
+returns c = rw (c .wrapping-add-u327 .ensures, c .before .wrapping-add-u326 .ensures, c .before .before .wrapping-add-u325 .ensures, c .before .before .before .most .ensures, c .before .before .before .before .sum0 .ensures, c .before .before .before .before .before .wrapping-add-u324 .ensures, c .before .before .before .before .before .before .wrapping-add-u323 .ensures, c .before .before .before .before .before .before .before .wrapping-add-u322 .ensures, c .before .before .before .before .before .before .before .before .choose .ensures, c .before .before .before .before .before .before .before .before .before .wrapping-add-u32 .ensures, c .before .before .before .before .before .before .before .before .before .before .sum1 .ensures)
 
 pub one-round-spec : {M : Type 1} → statement M
 one-round-spec =

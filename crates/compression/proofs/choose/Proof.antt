@@ -1,6 +1,6 @@
-use Rattle.sha256.proofs.Bitwise.{ch-is}
-use Rattle.sha256.proofs.choose.Statement.{statement}
-use Rattle.sha256.proofs.choose.Tie as tie
+use Rattle.compression.proofs.Bitwise.{ch-is}
+use Rattle.compression.proofs.choose.Statement.{statement}
+use Rattle.compression.proofs.choose.Tie as tie
 
 returns : tie.Need-returns
 returns c = ch-is _ _ _ (c .fits .x .fits) (c .fits .y .fits) (c .fits .z .fits)

@@ -1,6 +1,6 @@
 use borrow.Author.Needs.{needs}
-use Rattle.sha256.proofs.add_hash.Statement.{statement}
-use Rattle.sha256.proofs.add_hash.Tie as tie
+use Rattle.compression.proofs.add_hash.Statement.{statement}
+use Rattle.compression.proofs.add_hash.Tie as tie
 
 wrapping-add-u32-requires : tie.Need-wrapping-add-u32-requires
 wrapping-add-u32-requires c κs = search needs
@@ -27,7 +27,7 @@ wrapping-add-u32-requires-8 : tie.Need-wrapping-add-u32-requires-8
 wrapping-add-u32-requires-8 c κs = search needs
 
 returns : tie.Need-returns
-returns c = cc
+returns c = λ i. record { a = c .before .before .before .before .before .before .before .wrapping-add-u32 .ensures i; b = c .before .before .before .before .before .before .wrapping-add-u322 .ensures i; c = c .before .before .before .before .before .wrapping-add-u323 .ensures i; d = c .before .before .before .before .wrapping-add-u324 .ensures i; e = c .before .before .before .wrapping-add-u325 .ensures i; f = c .before .before .wrapping-add-u326 .ensures i; g = c .before .wrapping-add-u327 .ensures i; h = c .wrapping-add-u328 .ensures i }
 
 pub add-hash-spec : {M : Type 1} → statement M
 add-hash-spec =

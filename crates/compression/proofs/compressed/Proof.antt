@@ -1,14 +1,14 @@
 use mathlib.Core.List.{List}
 use Prim.Native.Nat.{ℕ}
-use Rattle.sha256.proofs.Laws.{known, turned, extended-known, extended-length, words-length}
-use Rattle.sha256.specs.Sha256.{words, schedule, rounds, compress}
+use Rattle.compression.proofs.Laws.{known, turned, extended-known, extended-length, words-length}
+use Rattle.compression.specs.Compression.{words, schedule, rounds, compress}
 use lib.ListN.{length, take}
 use native.Mathlib.Omega.{arith}
 use Prim.Native.Nat.{_+_, _-_, _%_, _≤_}
 use mathlib.Core.Path.{_≡_, refl, ap, sym, _∙_}
 use borrow.Author.Needs.{needs}
-use Rattle.sha256.proofs.compressed.Statement.{statement}
-use Rattle.sha256.proofs.compressed.Tie as tie
+use Rattle.compression.proofs.compressed.Statement.{statement}
+use Rattle.compression.proofs.compressed.Tie as tie
 
 abbrev Inv-loop : tie.InvT-loop
 Inv-loop s k b w₀ t₀ i₀ w t i =

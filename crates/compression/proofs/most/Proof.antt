@@ -1,6 +1,6 @@
-use Rattle.sha256.proofs.Bitwise.{maj-is}
-use Rattle.sha256.proofs.most.Statement.{statement}
-use Rattle.sha256.proofs.most.Tie as tie
+use Rattle.compression.proofs.Bitwise.{maj-is}
+use Rattle.compression.proofs.most.Statement.{statement}
+use Rattle.compression.proofs.most.Tie as tie
 
 returns : tie.Need-returns
 returns c = maj-is _ _ _ (c .fits .x .fits) (c .fits .y .fits) (c .fits .z .fits)

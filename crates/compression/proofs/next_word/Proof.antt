@@ -1,7 +1,7 @@
 use borrow.Author.Needs.{needs}
-use Rattle.sha256.specs.Sha256.{next}
-use Rattle.sha256.proofs.next_word.Statement.{statement}
-use Rattle.sha256.proofs.next_word.Tie as tie
+use Rattle.compression.specs.Compression.{next}
+use Rattle.compression.proofs.next_word.Statement.{statement}
+use Rattle.compression.proofs.next_word.Tie as tie
 
 add-sigma-1 : tie.Need-add-sigma-1
 add-sigma-1 c = search needs
@@ -53,7 +53,7 @@ wrapping-add-u32-requires-3 c κs = search needs
 
 returns : tie.Need-returns
 unfolding next
-returns c = cc
+returns c = rw (c .wrapping-add-u323 .ensures, c .before .before .wrapping-add-u322 .ensures, c .before .before .before .sigma-0 .ensures, c .before .before .before .before .before .wrapping-add-u32 .ensures, c .before .before .before .before .before .before .before .sigma-1 .ensures)
 
 pub next-word-spec : {M : Type 1} → statement M
 next-word-spec =

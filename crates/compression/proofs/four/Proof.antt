@@ -1,9 +1,9 @@
-use Rattle.sha256.specs.Sha256.{round}
-use Rattle.sha256.specs.Steps.{upto}
+use Rattle.compression.specs.Compression.{round}
+use Rattle.compression.specs.Steps.{upto}
 use mathlib.Core.Path.{ap, _∙_}
 use borrow.Author.Needs.{needs}
-use Rattle.sha256.proofs.four.Statement.{statement}
-use Rattle.sha256.proofs.four.Tie as tie
+use Rattle.compression.proofs.four.Statement.{statement}
+use Rattle.compression.proofs.four.Tie as tie
 
 add-one-round : tie.Need-add-one-round
 add-one-round c = search needs

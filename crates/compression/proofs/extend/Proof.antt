@@ -1,7 +1,7 @@
-use Rattle.sha256.proofs.Laws.{extended-is, extended-none}
+use Rattle.compression.proofs.Laws.{extended-is, extended-none}
 use borrow.Author.Needs.{needs}
-use Rattle.sha256.proofs.extend.Statement.{statement}
-use Rattle.sha256.proofs.extend.Tie as tie
+use Rattle.compression.proofs.extend.Statement.{statement}
+use Rattle.compression.proofs.extend.Tie as tie
 
 next-word-requires : tie.Need-next-word-requires
 next-word-requires c κs = search needs

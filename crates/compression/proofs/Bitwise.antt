@@ -4,7 +4,7 @@ use mathlib.Core.Path.{_≡_, refl, ap, ap₂, sym, _∙_}
 use native.Mathlib.Nat.{div-add-mod', pow-suc}
 use native.Mathlib.Omega.{arith}
 use lib.Bits.{bitAnd, bitXor, and-shr, xor-shr, and-mod, xor-mod}
-use Rattle.sha256.specs.Functions.{ch, maj}
+use Rattle.compression.specs.Functions.{ch, maj}
 
 half-and : (a b : ℕ) → bitAnd a b / 2 ≡ bitAnd (a / 2) (b / 2)
 half-and a b = and-shr a b 1

@@ -1,4 +1,4 @@
-/* The plain C that aes.c measures against. */
+/* The plain C that primitives.c measures against. */
 #include <stddef.h>
 #include <stdint.h>
 

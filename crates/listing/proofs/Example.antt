@@ -2,23 +2,22 @@
 -- Assumes nothing.
 use Prim.Native.Nat.{ℕ}
 use mathlib.Core.Path.{_≡_, refl}
-use mathlib.Core.List.{List, [], _∷_, _++_}
+use mathlib.Core.List.{List, [], _∷_}
 use lib.ListN.{replicate}
-use Rattle.words.specs.Choice.{pick, both, no}
 use Rattle.words.specs.Numbers.{numberAt, bytesOf, zeros}
 use Rattle.words.specs.Splices.{splice}
-use Rattle.key.specs.Keys.{dataKey, clean, wellKey, keyBytes, rawKey, keyAt, dataAt, dataBytes, keyEq, sameTop, above, bitAt, toward}
-use Rattle.value.specs.Values.{bareNode, sideOf, digestAt, digestBytes, digestEq, linkBytes, sideBytes, fingerprintBytes, nodeBytes, valueBytes, linkAt, sideAt, nodeAt, fingerprintAt, valueAt, fits, isFirst, valueEq}
+use Rattle.key.specs.Keys.{clean, wellKey, keyBytes, rawKey, keyAt, dataAt, dataBytes, keyEq, sameTop, above, bitAt, toward}
+use Rattle.value.specs.Values.{digestAt, digestBytes, digestEq, linkBytes, sideBytes, fingerprintBytes, nodeBytes, valueBytes, linkAt, sideAt, nodeAt, fingerprintAt, valueAt, fits, isFirst, valueEq}
 use Rattle.entry.specs.Entries.{addTreeAt, addDeferredAt, pairOfSlots, evictDeferredAt, recordAt, absentAt, emptyAt, entryOf, headOf, readEntry, entryTag, entryBody, entryBytes}
-use Rattle.hash.specs.Hashes.{setKey, digestOf}
+use Rattle.hash.specs.Hashes.{setKey}
 use Rattle.slot.specs.Slots.{slotBytes, allZero, slotAt}
-use Rattle.cache.specs.Caches.{slotIn, wellLength, heldIn, held, wellRecord, wellAt, wellFrom, wellCache, openedCache}
-use Rattle.state.specs.States.{settled, wellState, addedCurrent, addedOld, evictedState, evictMessage, evicted, advancedState, closedState, freshState, openDef}
+use Rattle.cache.specs.Caches.{wellLength, heldIn, held, wellRecord, wellAt, wellFrom, wellCache, openedCache}
+use Rattle.state.specs.States.{settled, wellState, addedCurrent, addedOld, evictedState, evictMessage, evicted, advancedState, closedState, freshState}
 use Rattle.rules.specs.Adds.{linked, addLink, addNode, addUnder, addTree, namedEpoch, addInto, addDeferred}
 use Rattle.rules.specs.Evicts.{unlinked, evictLink, evictNode, evictUnder, evictBy, evictDeferred}
 use Rattle.rules.specs.Answers.{get, absent, put}
 use Rattle.rules.specs.Epochs.{advance, close}
-use Rattle.rules.specs.Steps.{Step, entryStep, stepWell, step}
+use Rattle.rules.specs.Steps.{entryStep, stepWell, step}
 use Rattle.rules.specs.Runs.{halts}
 use Rattle.text.specs.Text.{digitsBefore, decimal, field, lineText, endText}
 use Rattle.listing.specs.Listings.{rowsFrom, listing}

@@ -1,11 +1,11 @@
 -- Laws of the listing: what is still to be stored, line by line. Assumes nothing.
-use Prim.Native.Nat.{ℕ, zero, suc, _+_, _*_, _-_, _≤_, _<_}
+use Prim.Native.Nat.{ℕ, zero, suc, _+_, _-_, _≤_, _<_}
 use mathlib.Core.Path.{_≡_, refl, ap, sym, _∙_}
 use mathlib.Core.List.{List, _++_}
 use mathlib.Core.Bool.{true, false}
 use native.Mathlib.Nat.{sub-zero}
 use native.Mathlib.Omega.{arith}
-use lib.ListN.{length, getD, take, drop, length-append}
+use lib.ListN.{length, getD, drop, length-append}
 use lib.Seq.{length-take-le}
 use borrow.Author.Tests.{lt-leb, le-leb}
 use Rattle.words.specs.Splices.{splice}
@@ -17,10 +17,10 @@ use Rattle.state.proofs.Laws.{open-well-state, open-well-cache, open-well-lengt
 use Rattle.state.specs.declared.State.{State}
 use Rattle.state.specs.declared.Opened.{Opened}
 use Rattle.rules.specs.declared.Stepped.{Stepped}
-use Rattle.rules.specs.Steps.{Step, stepped, step}
+use Rattle.rules.specs.Steps.{stepped, step}
 use Rattle.rules.specs.Runs.{halts, sound}
 use Rattle.text.specs.Text.{lineText, slotsText, endText}
-use Rattle.text.proofs.Laws.{Stored, stored-step, stored-rest}
+use Rattle.text.proofs.Laws.{Stored, stored-rest}
 use Rattle.listing.specs.Listings.{rowThen, rowsFrom, listing}
 use Rattle.listing.specs.Rooms.{Counts}
 

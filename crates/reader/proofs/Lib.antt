@@ -1,3 +1,4 @@
--- Places worked through, and their laws.
+-- Places worked through, their laws, and what the walks share.
 pub mod Examples
 pub mod Laws
+pub mod Parted

@@ -1,5 +1,6 @@
 // AES-128 (FIPS 197): the key expansion, made once for a key, and the cipher on one block.
 // Rounds go by one table that joins SubBytes and MixColumns (tables.rt), and read the bytes of the expanded key as they need them.
+// Promises upward: the expansion and the cipher are the standard's, for any key, any block and any 176 bytes.
 ghost use mathlib.Core.Path.{_≡_};
 ghost use mathlib.Core.List.{[], _∷_};
 ghost use Prim.Native.Nat.{ℕ, _+_, _≤_, _<_};

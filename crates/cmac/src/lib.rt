@@ -1,5 +1,6 @@
 // AES-CMAC (RFC 4493): the tag of a message, and sums of tags.
 // The tag call is public and refuses long messages; `mac` serves the crates above on lent buffers.
+// Promises upward: the tag is the standard's for a message of any length, and sums of tags are their xor.
 ghost use mathlib.Core.Path.{_≡_};
 ghost use Prim.Native.Nat.{ℕ, _+_, _*_, _^_, _≤_, _<_};
 ghost use lib.ListN.{length};

@@ -1,21 +1,20 @@
 -- Demand 3 of a run over any log, from demand 3 of the inputs that it steps.
 use Prim.Native.Nat.{ℕ, zero, suc, _+_, _≤_}
-use mathlib.Core.Path.{_≡_, refl}
 use mathlib.Core.Bool.{Bool, true, false}
 use mathlib.Core.List.{List, [], _∷_}
 use native.Mathlib.Omega.{arith}
 use lib.ListN.{length, drop}
 use lib.Seq.{getD-drop}
-use lib.Dec.{leb, eqb}
+use lib.Dec.{leb}
 use Rattle.words.specs.Choice.{pick}
 use Rattle.words.specs.Numbers.{Bytes}
 use Rattle.state.specs.States.{settled}
 use Rattle.state.specs.declared.State.{State}
-use Rattle.rules.specs.Steps.{Step, step}
+use Rattle.rules.specs.Steps.{step}
 use Rattle.rules.specs.Runs as runs
-use Rattle.rules.specs.Runs.{halts, sound, counted, ended, afterStep, runFrom}
-use Rattle.integrity.specs.Statement.{Moment, fresh, run, AllBytes}
-use Rattle.integrity.specs.Logs.{restThen, rests, inputsOf, RunDemand3}
+use Rattle.rules.specs.Runs.{halts, sound, counted, ended, runFrom}
+use Rattle.integrity.specs.Statement.{fresh, run, AllBytes}
+use Rattle.integrity.specs.Logs.{rests, inputsOf, RunDemand3}
 use Rattle.integrity.proofs.Demand3.{settled-demand-3}
 
 -- what a run returns as settled is not above what its end state says

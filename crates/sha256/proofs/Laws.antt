@@ -3,16 +3,16 @@ use mathlib.Core.Path.{_≡_, refl, ap, ap₂, sym, _∙_}
 use mathlib.Core.List.{List, [], _∷_, _++_, append-assoc, append-nil}
 use Prim.Native.Nat.{ℕ, zero, suc, _+_, _-_, _*_, _/_, _%_, _^_, _≤_, _<_}
 use native.Mathlib.Numerals.{add-one}
-use native.Mathlib.Nat.{mul-comm, zero-add}
+use native.Mathlib.Nat.{mul-comm}
 use native.Mathlib.Omega.{arith}
 use lib.Arith.{digits-lt, digits-div, digits-mod}
 use lib.ListN.{length, take, drop, getD, set, replicate, length-drop, length-append, length-replicate, replicate-append-replicate}
-use lib.Seq.{drop-append-le, take-append-le, take-append-add, set-at, set-append-seam, append-snoc, take-suc, take-at, length-take-le, take-take, take-all, take-length, drop-length, drop-drop}
-use Rattle.words.specs.Numbers.{numberAt, bytesOf, fourAt, fourWords, Bytes}
+use lib.Seq.{drop-append-le, take-append-le, take-append-add, set-at, set-append-seam, append-snoc, take-suc, take-at, length-take-le, take-take, take-all, take-length, drop-drop}
+use Rattle.words.specs.Numbers.{bytesOf, fourAt, fourWords, Bytes}
 use Rattle.words.specs.Splices.{splice}
 use Rattle.words.specs.declared.Four.{Four}
 use Rattle.words.proofs.Laws.{bytes-low, bytes-length, bytes-split, take-splice, splice-all, four-at, four-back, append-bytes, number-bytes}
-use Rattle.sha256.specs.Sha256.{Hash, compress, block, blocks, padding, after, padded, hashBytes}
+use Rattle.sha256.specs.Sha256.{Hash, compress, blocks, padding, after, padded, hashBytes}
 
 -- ---- what the loop of `ending` copies, and its stores after it
 pub copied : (t b : List ℕ) (i : ℕ) → i < length t → length t < 64 → b ≡ take i t ++ replicate (128 - i) 0 → set b i (getD t i 0) ≡ take (i + 1) t ++ replicate (128 - (i + 1)) 0

@@ -1,7 +1,6 @@
 -- FIPS 180-4's examples, one block and two, computed from the definition.
 use mathlib.Core.Path.{_≡_, refl}
-use mathlib.Core.List.{List, [], _∷_}
-use Prim.Native.Nat.{ℕ}
+use mathlib.Core.List.{[], _∷_}
 use Rattle.words.specs.Numbers.{numberAt, bytesOf}
 use Rattle.sha256.specs.Sha256.{K, next, schedule, round, rounds, words, compress, after, padded, hashOf, sha256}
 

@@ -1,7 +1,7 @@
 -- FIPS 180-4, sections 5.1.1 to 6.2.2: padding, the blocks, the hash value and the digest. Section 4 and the steps 1 to 4 of 6.2.2 are in
 -- crates/compression/specs, whose names are passed on. A message is a list of bytes, a digest 32 of them.
 use Prim.Native.Nat.{ℕ, zero, suc, _+_, _-_, _*_, _/_}
-use mathlib.Core.List.{List, [], _∷_, _++_}
+use mathlib.Core.List.{List, _∷_, _++_}
 use lib.Dec.{ltb}
 use lib.ListN.{length, replicate}
 use Rattle.words.specs.Choice.{pick}

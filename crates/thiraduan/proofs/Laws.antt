@@ -2,7 +2,7 @@
 use Prim.Native.Nat.{ℕ, _≤_}
 use mathlib.Core.Path.{_≡_, refl, ap, sym, _∙_}
 use mathlib.Core.List.{List}
-use mathlib.Core.Bool.{true, false, true≢false}
+use mathlib.Core.Bool.{false, true≢false}
 use lib.ListN.{length, getD, take}
 use lib.Seq.{length-take-le}
 use lib.Dec.{eqb}
@@ -10,14 +10,14 @@ use borrow.Author.Tests.{le-ltb}
 use Rattle.words.specs.Numbers.{Bytes}
 use Rattle.words.specs.Splices.{splice}
 use Rattle.verdict.specs.Verdicts.{accepted}
-use Rattle.entry.specs.Entries.{readEntry, entryBytes}
+use Rattle.entry.specs.Entries.{readEntry}
 use Rattle.entry.specs.declared.Entry.{Entry}
 use Rattle.entry.specs.declared.Reading.the-variants as reading
 use Rattle.writer.specs.Writings.{writing, writeEntry}
 use Rattle.writer.proofs.Same.{entry-same}
 use Rattle.fields.proofs.Laws.{entry-back}
 use Rattle.state.specs.declared.State.{State}
-use Rattle.flat.specs.Flats.{stateAt, stateBytes, StateFits}
+use Rattle.flat.specs.Flats.{stateAt, StateFits}
 use Rattle.flat.specs.declared.StateRead.{StateRead}
 use Rattle.flat.specs.declared.StateRead.the-variants as stateRead
 use Rattle.flat.proofs.Laws.{state-back, state-same}
@@ -41,16 +41,16 @@ module _ (log s c t : List ℕ) (b : Bytes s) (st : State) (e : stateAt s ≡ st
   pub step-next : StateFits (step log st c .result .state) → stateAt (flatStep log s c t .state) ≡ stateRead.Good (step log st c .result .state)
   step-next f = rw flat-step (state-back (step log st c .result .state) f)
 
+no-state : (log s c t : List ℕ) → stateAt s ≡ stateRead.Bad → (flatStep log s c t .state ≡ s) × (flatStep log s c t .cache ≡ c)
+unfolding flatStep
+no-state log s c t e = (rw e refl, rw e refl)
+
 -- whatever the bytes are: a refused call leaves those of the state and of the cache as they were
 pub refused-kept : (log s c t : List ℕ) → Bytes s → eqb (flatStep log s c t .verdict) accepted ≡ false → (flatStep log s c t .state ≡ s) × (flatStep log s c t .cache ≡ c)
 refused-kept log s c t b f = go (stateAt s) refl
   where
-    no-state : stateAt s ≡ stateRead.Bad → (flatStep log s c t .state ≡ s) × (flatStep log s c t .cache ≡ c)
-    unfolding flatStep
-    no-state e = (rw e, rw e)
-
     go : (r : StateRead) → stateAt s ≡ r → (flatStep log s c t .state ≡ s) × (flatStep log s c t .cache ≡ c)
-    go stateRead.Bad e = no-state e
+    go stateRead.Bad e = no-state log s c t e
     go (stateRead.Good st) e = by (step-settles st c log)
       where
         by : Stepping st c log (step log st c) → (flatStep log s c t .state ≡ s) × (flatStep log s c t .cache ≡ c)

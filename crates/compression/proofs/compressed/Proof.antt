@@ -5,7 +5,7 @@ use Rattle.compression.specs.Compression.{words, schedule, rounds, compr
 use lib.ListN.{length, take}
 use native.Mathlib.Omega.{arith}
 use Prim.Native.Nat.{_+_, _-_, _%_, _≤_}
-use mathlib.Core.Path.{_≡_, refl, ap, sym, _∙_}
+use mathlib.Core.Path.{_≡_, refl, ap, _∙_}
 use borrow.Author.Needs.{needs}
 use Rattle.compression.proofs.compressed.Statement.{statement}
 use Rattle.compression.proofs.compressed.Tie as tie

@@ -1,7 +1,6 @@
 use Rattle.run.proofs.Laws.{refused-empty, refused-first}
 use Rattle.rules.specs.declared.Ran.{Ran}
 use Rattle.rules.specs.Runs.{running}
-use mathlib.Core.List.{List}
 use mathlib.Core.Path.{sym, ap, _∙_}
 use borrow.Author.Needs.{needs}
 use Rattle.run.proofs.run.Statement.{statement}

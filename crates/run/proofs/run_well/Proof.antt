@@ -3,7 +3,7 @@ use Rattle.run.proofs.Laws.{Going, going-state, going-key, run-starts, 
 use Rattle.rules.specs.Runs.{runFrom, run}
 use mathlib.Core.Path.{_≡_, refl, sym, _∙_}
 use lib.ListN.{length}
-use Prim.Native.Nat.{ℕ, _+_, _-_, _≤_}
+use Prim.Native.Nat.{_-_, _≤_}
 use native.Mathlib.Omega.{arith}
 use borrow.Author.Needs.{needs}
 use Rattle.run.proofs.run_well.Statement.{statement}

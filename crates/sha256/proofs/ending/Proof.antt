@@ -4,7 +4,7 @@ use lib.ListN.{length, take, replicate, length-set}
 use native.Mathlib.Omega.{arith}
 use Prim.Native.Nat.{_+_, _-_, _≤_}
 use mathlib.Core.List.{_++_}
-use mathlib.Core.Path.{_≡_, refl, ap, sym, _∙_}
+use mathlib.Core.Path.{_≡_, refl}
 use Rattle.sha256.proofs.ending.Statement.{statement}
 use Rattle.sha256.proofs.ending.Tie as tie
 

@@ -1,5 +1,5 @@
 use Rattle.sha256.specs.declared.Answer.{Answer}
-use mathlib.Core.Path.{ap, _∙_}
+use mathlib.Core.Path.{ap}
 use borrow.Author.Needs.{needs}
 use Rattle.thiraduan.proofs.thiraduan_term_key.Statement.{statement}
 use Rattle.thiraduan.proofs.thiraduan_term_key.Tie as tie

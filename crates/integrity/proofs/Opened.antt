@@ -7,15 +7,16 @@ use native.Mathlib.Omega.{arith}
 use lib.Dec.{lit<}
 use lib.ListN.{length, length-append, replicate}
 use lib.Seq.{take-at, drop-at}
-use Rattle.words.specs.Numbers.{zeros, Bytes}
-use Rattle.words.proofs.Laws.{append-bytes, zeros-length}
+use Rattle.words.specs.Numbers.{zeros}
+use Rattle.words.proofs.Laws.{zeros-length}
 use Rattle.cmac.specs.declared.Tag.{Tag}
 use Rattle.key.specs.Keys.{rootKey, isData, wellKey, clean}
 use Rattle.hash.specs.Hashes.{setKey, digestOf, tagOf}
 use Rattle.slot.specs.Slots.{slotBytes, tree}
-use Rattle.slot.proofs.Laws.{take-zeros, drop-zeros, slot-length, zeros-bytes, slot-bytes}
+use Rattle.slot.proofs.Laws.{take-zeros, drop-zeros, slot-length}
 use Rattle.slot.proofs.Back.{Kept, zero-slot, slot-back}
 use Rattle.cache.specs.Caches.{count, openedCache}
+use Rattle.cache.proofs.Opened.{opened-bytes}
 use Rattle.state.specs.States.{freshState}
 use Rattle.integrity.specs.Statement.{ofEpoch}
 use Rattle.integrity.proofs.Updates.{upd}
@@ -64,10 +65,6 @@ opened-slots n =
     let m : count (openedCache n) ≡ suc n = ap (λ (k : ℕ). k / 192) (length-append b (zeros (n * 192))) ∙ rw (e, zeros-length (n * 192)) (omega arith) in
     ap (λ (k : ℕ). slotsOf k (openedCache n)) m
     ∙ rw (take-at b (zeros (n * 192)) 192 e, drop-at b (zeros (n * 192)) 192 e, slot-back tree rootKey bare root-kept, blank-slots n)
-
-opened-bytes : (n : ℕ) → Bytes (openedCache n)
-unfolding openedCache
-opened-bytes n = append-bytes (slotBytes tree rootKey bare) (zeros (n * 192)) (slot-bytes tree rootKey bare (omega arith)) (zeros-bytes (n * 192))
 
 pub opened-stands : (key : List ℕ) (n : ℕ)
     → Stands (setKey key) (freshState key) (openedCache n) (opened-lane digestOf isData Tag tags (tagOf (setKey key)))

@@ -8,14 +8,13 @@ use mathlib.Core.List.{List, [], _∷_, _++_, List·Memᴰ}
 use Prim.Native.Nat.{ℕ, _-_, _≤_}
 use native.Mathlib.Omega.{arith}
 use lib.Dec.{eqb}
-use borrow.Author.Tests.{eqb-true, le-leb}
 use Rattle.words.specs.Choice.{pick}
 use Rattle.words.specs.Numbers.{Bytes}
 use Rattle.words.proofs.Laws.{both-true}
 use Rattle.verdict.specs.Verdicts.{accepted}
 use Rattle.cmac.specs.declared.Tag.{Tag}
 use Rattle.key.specs.Keys.{isData, wellKey}
-use Rattle.key.proofs.Laws.{clean-all}
+use Rattle.key.proofs.Laws.{data-well}
 use Rattle.value.specs.Values.{wellValue}
 use Rattle.entry.specs.Entries.{readEntry, wellEntry}
 use Rattle.entry.specs.declared.Entry.{Entry}
@@ -44,13 +43,6 @@ use Rattle.rules.proofs.Refused.{Stepping, step-settles}
 use Rattle.rules.proofs.Refused as refused
 use Rattle.integrity.proofs.Messages.{AllWell, join-well, added-well, evicted-well}
 use Rattle.integrity.proofs.Stood.{mem-left, mem-right, mem-split, found-stood, Sound, values-sound, entry-sound}
-
--- a data key is well formed
-data-well : (k : Key) → isData k ≡ true → wellKey k ≡ true
-unfolding wellKey
-data-well k e =
-    let h : k .len ≡ 256 = eqb-true (k .len) 256 e in
-    rw (le-leb (k .len) 256 (omega arith), clean-all (k .len) (k .w0) (omega arith), clean-all (k .len - 64) (k .w1) (omega arith), clean-all (k .len - 128) (k .w2) (omega arith), clean-all (k .len - 192) (k .w3) (omega arith))
 
 -- every accepted entry that was read from bytes
 pub refine : (key : SetKey) (st : State) (c : List ℕ) (t : Lane) → Stands key st c t → (st′ : State) (c′ : List ℕ) (x : Entry) → wellEntry x ≡ true → EntryFits x

@@ -4,10 +4,10 @@ use mathlib.Core.Bool.{Bool, true, false}
 use mathlib.Core.List.{List, [], _∷_}
 use native.Mathlib.Omega.{arith}
 use lib.ListN.{length, drop}
-use lib.Seq.{getD-drop}
 use lib.Dec.{leb}
 use Rattle.words.specs.Choice.{pick}
 use Rattle.words.specs.Numbers.{Bytes}
+use Rattle.words.proofs.Laws.{drop-bytes}
 use Rattle.state.specs.States.{settled}
 use Rattle.state.specs.declared.State.{State}
 use Rattle.rules.specs.Steps.{step}
@@ -47,8 +47,8 @@ module _ (log : List ℕ) where
 
   rest-bytes : Bytes log → (at : ℕ) (b h : Bool) (l : List (List ℕ)) → AllBytes l → AllBytes (pick b [] (drop at log ∷ pick h [] l))
   rest-bytes p at true h l q = tt
-  rest-bytes p at false true l q = ((λ i. rw (getD-drop at log i 0) (p (at + i))), tt)
-  rest-bytes p at false false l q = ((λ i. rw (getD-drop at log i 0) (p (at + i))), q)
+  rest-bytes p at false true l q = (drop-bytes log at p, tt)
+  rest-bytes p at false false l q = (drop-bytes log at p, q)
 
   all-bytes : Bytes log → (n at : ℕ) (st : State) (c : List ℕ) → AllBytes (rests n log at st c)
   unfolding rests

@@ -8,9 +8,9 @@ use mathlib.Core.List.{List, [], _∷_, _++_, List·Memᴰ, List·Memᴰ·head, 
 use Prim.Native.Nat.{ℕ, zero, suc, _+_}
 use native.Mathlib.Omega.{arith}
 use lib.ListN.{length, take, drop, length-append}
-use lib.Seq.{getD-drop, take-length}
+use lib.Seq.{take-length}
 use Rattle.words.specs.Numbers.{Bytes}
-use Rattle.words.proofs.Laws.{both-true, bytes-length, part-bytes}
+use Rattle.words.proofs.Laws.{both-true, bytes-length, part-bytes, drop-bytes}
 use Rattle.sha256.specs.Sha256.{sha256}
 use Rattle.key.specs.Keys.{wellKey, isData}
 use Rattle.value.specs.Values.{valueBytes, wellValue, ValueFits, digestBytes}
@@ -81,7 +81,7 @@ unfolding cacheValues
 values-sound zero c b v h = absurd (List·Memᴰ·not-nil h)
 values-sound (suc n) c b v h = elim (mem-split (slotValue (slot.slotAt (take 192 c))) (cacheValues n (drop 192 c)) h) [
   | inl g ↦ go (slot.slotAt (take 192 c)) refl g
-  | inr g ↦ values-sound n (drop 192 c) (λ i. rw (getD-drop 192 c i 0) (b (192 + i))) v g
+  | inr g ↦ values-sound n (drop 192 c) (drop-bytes c 192 b) v g
 ]
   where
     go : (z : Slot) → slot.slotAt (take 192 c) ≡ z → List·Memᴰ v (slotValue z) → Sound v

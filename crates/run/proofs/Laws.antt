@@ -7,11 +7,10 @@ use native.Mathlib.Omega.{arith}
 use native.Mathlib.Nat.{sub-zero, add-zero}
 use lib.Dec.{eqb}
 use lib.ListN.{length, drop, length-drop}
-use lib.Seq.{getD-drop}
 use borrow.Author.Tests.{lt-leb, le-leb}
 use Rattle.words.specs.Choice.{pick, both}
 use Rattle.words.specs.Numbers.{Bytes}
-use Rattle.words.proofs.Laws.{both-true, true-both}
+use Rattle.words.proofs.Laws.{both-true, true-both, drop-bytes}
 use Rattle.verdict.specs.Verdicts.{accepted, notWell, wrongCache}
 use Rattle.aes.specs.Aes.{expansion}
 use Rattle.entry.specs.Entries.{readEntry, readingUsed}
@@ -41,9 +40,6 @@ well-goes log st c h = rw (step-used log st c) (used-some log (λ e. false≢tru
 same-length-well : (c d : List ℕ) → length d ≡ length c → wellLength c ≡ true → wellLength d ≡ true
 unfolding wellLength
 same-length-well c d e h = rw e h
-
-rest-bytes : (log : List ℕ) (at : ℕ) → Bytes log → Bytes (drop at log)
-rest-bytes log at b i = rw getD-drop (b (at + i))
 
 -- what is known of a run's state and cache between two steps: neither 28 nor 1 applies, and the set key is the one expanded
 pub record Going (k : SetKey) (st : State) (c : List ℕ) : Type 0 where
@@ -115,7 +111,7 @@ module _ (log : List ℕ) (at : ℕ) (k : SetKey) (st : State) (c : List ℕ) (w
       rw u (well-goes (drop at log) st c (rw v at f))
 
   pub turn-going : Bytes log → Bytes c → Going k (r .state) left
-  turn-going bl bc = going-on (drop at log) k st c w (rest-bytes log at bl) bc (stepped r left) inner
+  turn-going bl bc = going-on (drop at log) k st c w (drop-bytes log at bl) bc (stepped r left) inner
 
   module _ (m a : ℕ) (h : at < length log) (g : m < length log) where
     turned : runFrom (length log - m) log at st c m a ≡ afterStep (runFrom (length log - (m + 1)) log) at (stepped r left) m a

@@ -8,13 +8,11 @@ use lib.Dec.{eqb}
 use lib.ListN.{getD}
 use Rattle.words.specs.Choice.{pick}
 use Rattle.words.specs.Numbers.{numberAt, bytesOf}
-use Rattle.aes.specs.Field.{xtime, three, sub, valuesOf}
+use Rattle.sbox.specs.Field.{xtime, three, sub, valuesOf}
+use Rattle.sbox.specs.Columns.{pack}
 use Rattle.aes.specs.declared.Block.{Block}
 
--- 3.5: the word of four bytes, and its bytes
-abbrev pub pack : ℕ → ℕ → ℕ → ℕ → ℕ
-pack a0 a1 a2 a3 = ((a0 * 2 ^ 8 + a1) * 2 ^ 8 + a2) * 2 ^ 8 + a3
-
+-- 3.5: the bytes of a word
 abbrev pub byte0 : ℕ → ℕ
 byte0 w = w / 2 ^ 24 % 256
 
@@ -139,10 +137,6 @@ column w x y z k = bitXor (mixColumn (shifted (subWord w) (subWord x) (subWord y
 
 unfoldable pub lastColumn : ℕ → ℕ → ℕ → ℕ → ℕ → ℕ
 lastColumn w x y z k = bitXor (shifted (subWord w) (subWord x) (subWord y) (subWord z)) k
-
--- The column that MixColumns makes of one byte in row 0, as the code's table has it for each byte substituted.
-unfoldable pub spread : ℕ → ℕ
-spread b = pack (xtime b) b b (three b)
 
 -- A word turned n bits to the right, n below 32, as the code turns it.
 abbrev pub rotr : ℕ → ℕ → ℕ

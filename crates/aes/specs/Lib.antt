@@ -1,4 +1,3 @@
 -- AES-128: the definitions follow FIPS 197, and its worked examples are computed from them.
-pub mod Field
 pub mod Aes
 pub mod Vectors

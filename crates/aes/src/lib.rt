@@ -1,15 +1,14 @@
 // AES-128 (FIPS 197): the key expansion, made once for a key, and the cipher on one block.
-// Rounds go by one table that joins SubBytes and MixColumns (tables.rt), and read the bytes of the expanded key as they need them.
+// Rounds go by one table that joins SubBytes and MixColumns (crate sbox), and read the bytes of the expanded key as they need them.
 // Promises upward: the expansion and the cipher are the standard's, for any key, any block and any 176 bytes.
 ghost use mathlib.Core.Path.{_≡_};
 ghost use mathlib.Core.List.{[], _∷_};
 ghost use Prim.Native.Nat.{ℕ, _+_, _≤_, _<_};
 ghost use lib.ListN.{length};
 ghost use Rattle.words.specs.Numbers.{numberAt};
-ghost use Rattle.aes.specs.Field.{sub};
-ghost use Rattle.aes.specs.Aes.{pack, byte0, byte1, byte2, byte3, column, lastColumn, addRoundKey, round, lastRound, cipher, rotWord, rcon, rotr, push, nextOf, expansion, keyWords, blockAt, blockBytes, encrypted};
-
-mod tables;
+ghost use Rattle.sbox.specs.Field.{sub};
+ghost use Rattle.sbox.specs.Columns.{pack};
+ghost use Rattle.aes.specs.Aes.{byte0, byte1, byte2, byte3, column, lastColumn, addRoundKey, round, lastRound, cipher, rotWord, rcon, rotr, push, nextOf, expansion, keyWords, blockAt, blockBytes, encrypted};
 
 // Of a key, of a block, and of a key's expansion.
 pub const KEY_BYTES: usize = 16;
@@ -71,7 +70,7 @@ fn mixed(w: u32, x: u32, y: u32, z: u32, k: u32) -> u32
     let mut f: u32 = 0;
     let mut j: usize = 0;
     while j < ROWS {
-        let n = e ^ turned(tables::spread_at(m[j]), 8 * j);
+        let n = e ^ turned(sbox::spread_at(m[j]), 8 * j);
         e = f;
         f = n;
         j += 1;
@@ -87,7 +86,7 @@ fn substituted(w: u32, x: u32, y: u32, z: u32) -> u32
     let mut v: u32 = 0;
     let mut j: usize = 0;
     while j < ROWS {
-        v = v % 16777216 * 256 + tables::sub_at(m[j]);
+        v = v % 16777216 * 256 + sbox::sub_at(m[j]);
         j += 1;
     }
     v

@@ -12,7 +12,7 @@ use lib.ListN.{length}
 use lib.Seq.{take-all}
 use Rattle.words.specs.Numbers.{bytesOf, Bytes}
 use Rattle.words.proofs.Laws.{both-true, true-both, bytes-back, part-join}
-use Rattle.aes.proofs.Xor.{xor-assoc}
+use Rattle.sbox.proofs.Xor.{xor-assoc}
 use Rattle.cmac.specs.Tags.{tagWords, noTag, tagXor, tagEq}
 use Rattle.cmac.specs.declared.Tag.{Tag}
 

@@ -5,7 +5,7 @@ use Prim.Native.Nat.{ℕ}
 use lib.ListN.{take}
 use Rattle.words.specs.Numbers.{numberAt, bytesOf, zeros}
 use Rattle.aes.specs.Aes.{subWord, subBytes, shifted, shiftRows, mixBytes, mixColumn, mixColumns, addRoundKey, round, rounds, lastRound, cipher, power, nextWord, schedule, expansion, keyWords, blockBytes}
-use Rattle.aes.specs.Field.{xtime, timesBits, times, powers, inverse, affineBits, affine, valuesOf, sbox, sub}
+use Rattle.sbox.specs.Field.{xtime, timesBits, times, powers, inverse, affineBits, affine, valuesOf, sbox, sub}
 use Rattle.cmac.specs.Cmac.{zeroBlock, double, key1, key2, chain, lastBlock, macBlock, cmac}
 
 abbrev key : List ℕ

@@ -4,7 +4,7 @@ use mathlib.Core.List.{List, [], _∷_}
 use Prim.Native.Nat.{ℕ}
 use Rattle.words.specs.Numbers.{numberAt, bytesOf, zeros}
 use Rattle.sha256.specs.Sha256 as sha
-use Rattle.aes.specs.Field.{xtime, timesBits, times, powers, inverse, affineBits, affine, valuesOf, sbox, sub}
+use Rattle.sbox.specs.Field.{xtime, timesBits, times, powers, inverse, affineBits, affine, valuesOf, sbox, sub}
 use Rattle.aes.specs.Aes as aes
 use Rattle.cmac.specs.Cmac.{double, key1, key2, chain, lastBlock, macBlock, cmac}
 use Rattle.key.specs.Keys.{keyBytes, dataKey}

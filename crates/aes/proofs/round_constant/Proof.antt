@@ -2,8 +2,8 @@ use mathlib.Core.Path.{_≡_, ap, sym}
 use Prim.Native.Nat.{ℕ, _≤_, _<_}
 use native.Mathlib.Omega.{arith}
 use Rattle.aes.specs.Aes.{power, rcon}
-use Rattle.aes.specs.Field.{xtime}
-use Rattle.aes.proofs.Laws.{past}
+use Rattle.sbox.specs.Field.{xtime}
+use Rattle.sbox.proofs.Laws.{past}
 use Rattle.aes.proofs.round_constant.Statement.{statement}
 use Rattle.aes.proofs.round_constant.Tie as tie
 

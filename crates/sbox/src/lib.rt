@@ -1,11 +1,13 @@
-// The two tables of the rounds, each a match: it is compiled to constants that stand in the program, while a constant array at
-// a variable index is laid out on the stack at every call. The arms go by the byte with its highest bit turned: the compiler
-// counts the arms of a byte from -128 on, turns that bit once more, and so turns it not at all. Each function is called from
-// one place, in a loop that the compiler unrolls: so the look-ups stand in the loop and not behind calls.
+// AES's S-box (FIPS 197, 5.1.1), alone and joined with MixColumns: the two tables of the rounds, each a match, which is compiled
+// to constants that stand in the program, while a constant array at a variable index is laid out on the stack at every call.
+// The arms go by the byte with its highest bit turned: the compiler counts the arms of a byte from -128 on, turns that bit once
+// more, and so turns it not at all. Each function is called from one place, in a loop that the compiler unrolls: so the look-ups
+// stand in the loop and not behind calls.
+// Promises upward: each entry is the standard's, for any byte.
 ghost use mathlib.Core.Path.{_≡_};
 ghost use Prim.Native.Nat.{ℕ};
-ghost use Rattle.aes.specs.Field.{sub};
-ghost use Rattle.aes.specs.Aes.{spread};
+ghost use Rattle.sbox.specs.Field.{sub};
+ghost use Rattle.sbox.specs.Columns.{spread};
 
 // The column that MixColumns makes of one byte in row 0, for the substitution of b.
 pub fn spread_at(b: u8) -> u32

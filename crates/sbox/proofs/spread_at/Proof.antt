@@ -1,9 +1,9 @@
-use Rattle.aes.specs.Aes.{spread}
-use Rattle.aes.specs.Field.{xtime}
-use Rattle.aes.specs.Vectors.{figure}
-use Rattle.aes.proofs.Laws.{spread-arm, last-arm}
-use Rattle.aes.proofs.tables.spread_at.Statement.{statement}
-use Rattle.aes.proofs.tables.spread_at.Tie as tie
+use Rattle.sbox.specs.Field.{xtime}
+use Rattle.sbox.specs.Columns.{spread}
+use Rattle.sbox.specs.Vectors.{figure}
+use Rattle.sbox.proofs.Laws.{spread-arm, last-arm}
+use Rattle.sbox.proofs.spread_at.Statement.{statement}
+use Rattle.sbox.proofs.spread_at.Tie as tie
 
 pub spread-at-spec : {M : Type 1} → statement M
 unfolding figure spread xtime

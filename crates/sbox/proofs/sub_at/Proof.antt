@@ -1,7 +1,7 @@
-use Rattle.aes.specs.Vectors.{figure}
-use Rattle.aes.proofs.Laws.{sub-arm, last-arm}
-use Rattle.aes.proofs.tables.sub_at.Statement.{statement}
-use Rattle.aes.proofs.tables.sub_at.Tie as tie
+use Rattle.sbox.specs.Vectors.{figure}
+use Rattle.sbox.proofs.Laws.{sub-arm, last-arm}
+use Rattle.sbox.proofs.sub_at.Statement.{statement}
+use Rattle.sbox.proofs.sub_at.Tie as tie
 
 pub sub-at-spec : {M : Type 1} → statement M
 unfolding figure

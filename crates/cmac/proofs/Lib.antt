@@ -1,3 +1,2 @@
-pub mod Doubling
 pub mod Laws
 pub mod Tags

@@ -1,4 +1,3 @@
--- AES-CMAC: the definitions follow RFC 4493, and its worked examples are computed from them; tags as words and their sums.
+-- AES-CMAC: the tag of a message, tags as words and their sums.
 pub mod Cmac
 pub mod Tags
-pub mod Vectors

@@ -3,10 +3,10 @@ use Prim.Native.Nat.{_≤_, _-_}
 use native.Mathlib.Omega.{arith}
 use borrow.Author.Needs.{needs}
 use Rattle.aes.specs.Aes.{keyWords}
-use Rattle.cmac.specs.Cmac.{chain}
-use Rattle.cmac.proofs.Laws.{chain-more}
-use Rattle.cmac.proofs.chained.Statement.{statement}
-use Rattle.cmac.proofs.chained.Tie as tie
+use Rattle.mac.specs.Cmac.{chain}
+use Rattle.mac.proofs.Laws.{chain-more}
+use Rattle.mac.proofs.chained.Statement.{statement}
+use Rattle.mac.proofs.chained.Tie as tie
 
 abbrev Inv-loop : tie.InvT-loop
 Inv-loop k m n x₀ i₀ x i = (i ≤ n) × (x ≡ chain (keyWords k) m i)

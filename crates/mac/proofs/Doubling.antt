@@ -7,7 +7,7 @@ use lib.Arith.{mod-mul, digits-div, digits-mod}
 use lib.Bits.{bitXor, xor-zero-r, xor-block}
 use lib.Dec.{lit<}
 use Rattle.aes.specs.Aes.{state}
-use Rattle.cmac.specs.Cmac.{double}
+use Rattle.mac.specs.Cmac.{double}
 
 -- the number of 128 bits that four words make
 abbrev pub blockNumber : ℕ → ℕ → ℕ → ℕ → ℕ

@@ -1,7 +1,7 @@
 use borrow.Author.Needs.{needs}
-use Rattle.cmac.proofs.Laws.{subkey-is}
-use Rattle.cmac.proofs.subkey.Statement.{statement}
-use Rattle.cmac.proofs.subkey.Tie as tie
+use Rattle.mac.proofs.Laws.{subkey-is}
+use Rattle.mac.proofs.subkey.Statement.{statement}
+use Rattle.mac.proofs.subkey.Tie as tie
 
 zero-block-requires : tie.Need-zero-block-requires
 zero-block-requires c κs = search needs

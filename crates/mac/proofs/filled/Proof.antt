@@ -1,7 +1,7 @@
 use borrow.Author.Needs.{needs}
-use Rattle.cmac.proofs.Laws.{filled-is}
-use Rattle.cmac.proofs.filled.Statement.{statement}
-use Rattle.cmac.proofs.filled.Tie as tie
+use Rattle.mac.proofs.Laws.{filled-is}
+use Rattle.mac.proofs.filled.Statement.{statement}
+use Rattle.mac.proofs.filled.Tie as tie
 
 slice-aggregate-put-bytes : tie.Need-slice-aggregate-put-bytes
 slice-aggregate-put-bytes c = search needs

@@ -1,8 +1,8 @@
 use mathlib.Core.Path.{refl}
 use borrow.Author.Needs.{needs}
-use Rattle.cmac.specs.Cmac.{double}
-use Rattle.cmac.proofs.doubled.Statement.{statement}
-use Rattle.cmac.proofs.doubled.Tie as tie
+use Rattle.mac.specs.Cmac.{double}
+use Rattle.mac.proofs.doubled.Statement.{statement}
+use Rattle.mac.proofs.doubled.Tie as tie
 
 add-t4 : tie.Need-add-t4
 add-t4 c = search needs

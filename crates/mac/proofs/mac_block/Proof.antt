@@ -1,7 +1,7 @@
 use borrow.Author.Needs.{needs}
-use Rattle.cmac.proofs.Laws.{mac-is}
-use Rattle.cmac.proofs.mac_block.Statement.{statement}
-use Rattle.cmac.proofs.mac_block.Tie as tie
+use Rattle.mac.proofs.Laws.{mac-is}
+use Rattle.mac.proofs.mac_block.Statement.{statement}
+use Rattle.mac.proofs.mac_block.Tie as tie
 
 before-last-requires : tie.Need-before-last-requires
 before-last-requires c κs = search needs

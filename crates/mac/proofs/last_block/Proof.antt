@@ -1,7 +1,7 @@
 use borrow.Author.Needs.{needs}
-use Rattle.cmac.proofs.Laws.{last-whole, last-filled}
-use Rattle.cmac.proofs.last_block.Statement.{statement}
-use Rattle.cmac.proofs.last_block.Tie as tie
+use Rattle.mac.proofs.Laws.{last-whole, last-filled}
+use Rattle.mac.proofs.last_block.Statement.{statement}
+use Rattle.mac.proofs.last_block.Tie as tie
 
 subkey-requires : tie.Need-subkey-requires
 subkey-requires c κs = search needs

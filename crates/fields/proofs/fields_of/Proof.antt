@@ -48,14 +48,12 @@ enum-known-e-8 c = search needs
 undated-requires-7 : tie.Need-undated-requires-7
 undated-requires-7 c κs = search needs
 
--- /work/wt/exports/target/rlib/key.rlib/interface/lang/src/lib.rt:7:24
 enum-told : tie.Need-enum-told
 enum-told c = search needs
 
 undated-requires-8 : tie.Need-undated-requires-8
 undated-requires-8 c κs = search needs
 
--- /work/wt/exports/target/rlib/key.rlib/interface/lang/src/lib.rt:7:24
 enum-told-2 : tie.Need-enum-told-2
 enum-told-2 c = search needs
 

@@ -1,7 +1,7 @@
 // Entry 1, once its body is read: add from tree. It scans the slots' keys once (7) and works at most one digest.
 // Promises upward: verdict, state and every byte of the cache are the rules', for any state and any lent cache.
 ghost use mathlib.Core.Path.{_≡_};
-ghost use Prim.Native.Nat.{ℕ, _+_, _*_, _≤_};
+ghost use Prim.Native.Nat.{_+_, _*_, _≤_};
 ghost use lib.ListN.{length};
 ghost use Rattle.slot.specs.Slots.{slotLength};
 ghost use Rattle.rules.specs.Outcomes.{outcome};

@@ -3,7 +3,7 @@
 // Promises upward: the expansion and the cipher are the standard's, for any key, any block and any 176 bytes.
 ghost use mathlib.Core.Path.{_≡_};
 ghost use mathlib.Core.List.{[], _∷_};
-ghost use Prim.Native.Nat.{ℕ, _+_, _≤_, _<_};
+ghost use Prim.Native.Nat.{_+_, _≤_, _<_};
 ghost use lib.ListN.{length};
 ghost use Rattle.words.specs.Numbers.{numberAt};
 ghost use Rattle.sbox.specs.Field.{sub};

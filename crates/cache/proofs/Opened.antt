@@ -44,7 +44,7 @@ opened-length n = simp (length-append, slot-length, zeros-length) (omega arith)
 pub opened-count : (n : ℕ) → count (openedCache n) ≡ suc n
 opened-count n = rw (opened-length n) (mul-div-cancel (suc n) (lit< tt))
 
-root-kept : Kept tree rootKey (v.Node bareNode)
+pub root-kept : Kept tree rootKey (v.Node bareNode)
 unfolding wellValue wellSide
 root-kept =
     record {

@@ -8,11 +8,11 @@ use lib.ListN.{length, length-append}
 use Rattle.words.proofs.Laws.{bytes-length, number-back, number-behind, number-split}
 use Rattle.words.specs.Choice.{pick}
 use Rattle.words.specs.Numbers.{numberAt, bytesOf, zeros}
-use Rattle.verdict.specs.Verdicts.{accepted, tooLong}
+use Rattle.verdict.specs.Verdicts.{accepted, tooLong, longest}
 use Rattle.aes.specs.Aes.{expansion, keyWords, blockBytes}
 use Rattle.aes.specs.declared.Block.{Block}
 use Rattle.cmac.specs.Cmac.{macBlock, cmac}
-use Rattle.cmac.specs.Tags.{longest, tagWith, tagOf}
+use Rattle.cmac.specs.Tags.{tagWith, tagOf}
 use Rattle.cmac.specs.declared.TagAnswer.{TagAnswer}
 
 pub cmac-is : (bytes m : List ℕ) (e : Block) → e ≡ macBlock (keyWords bytes) m → blockBytes e ≡ cmac bytes m

@@ -8,7 +8,7 @@ use lib.Dec.{eqb, ltb}
 use lib.ListN.{length}
 use Rattle.words.specs.Choice.{pick, both}
 use Rattle.words.specs.Numbers.{numberAt, zeros}
-use Rattle.verdict.specs.Verdicts.{accepted, tooLong}
+use Rattle.verdict.specs.Verdicts.{accepted, tooLong, longest}
 use Rattle.aes.specs.Aes.{expansion}
 use Rattle.cmac.specs.Cmac.{cmac}
 use Rattle.cmac.specs.declared.Tag.{Tag}
@@ -27,10 +27,6 @@ tagXor a b = record { t0 = bitXor (a .t0) (b .t0); t1 = bitXor (a .t1) (b .t1) }
 
 abbrev pub tagEq : Tag → Tag → Bool
 tagEq a b = both (eqb (a .t0) (b .t0)) (eqb (a .t1) (b .t1))
-
--- document 01: the longest message of a tag call
-abbrev pub longest : ℕ
-longest = 65536
 
 -- the tag call under the 176 bytes of an expanded key, and under a set key
 unfoldable pub tagWith : List ℕ → List ℕ → TagAnswer

@@ -6,9 +6,6 @@ ghost use Rattle.aes.specs.Aes.{blockBytes};
 ghost use Rattle.cmac.specs.Cmac.{cmac};
 ghost use Rattle.cmac.specs.Tags.{tagWords, tagXor, tagEq, tagWith, tagOf};
 
-// The longest message of a tag call (document 01).
-pub const LONGEST: usize = 65536;
-
 // A tag, or a sum of tags: sixteen bytes as two words, high byte first.
 pub struct Tag {
     pub t0: u64,
@@ -70,7 +67,7 @@ fn mac_bytes(k: &[u8; aes::EXPANDED_BYTES], m: &[u8]) -> [u8; aes::BLOCK_BYTES]
 pub fn tag_under(k: &[u8; aes::EXPANDED_BYTES], m: &[u8]) -> TagAnswer
     ensures { λ r. ⌜ r ≡ tagWith (now (k .entry)) (now (m .entry)) ⌝ }
 {
-    if LONGEST < m.len() {
+    if verdict::LONGEST < m.len() {
         return TagAnswer {
             verdict: verdict::TOO_LONG,
             bytes: [0u8; aes::BLOCK_BYTES],

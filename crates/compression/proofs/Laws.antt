@@ -9,7 +9,7 @@ use native.Mathlib.Omega.{arith}
 use lib.Dec.{leb}
 use lib.ListN.{length, take, getD, set, length-set, length-append, List·getD-append}
 use lib.Seq.{take-suc-set, getD-take}
-use borrow.Author.Tests.{leb-true, leb-false, le-leb, lt-leb}
+use borrow.Author.Tests.{leb-true, leb-false, lt-leb}
 use Rattle.words.specs.Choice.{pick}
 use Rattle.words.specs.Numbers.{numberAt}
 use Rattle.compression.specs.declared.Hash.{Hash}
@@ -119,14 +119,7 @@ turned k m v s t u i l e h f g p q =
     more-rounds k (schedule m 48) s t u i 4 e p
     (q ∙ upto-agree k v (schedule m 48) i 4 t (λ j b. in-hand m v (known (i + 4)) j l (omega arith) g (omega arith)))
 
--- what four stores leave
-pub extended-is : (w : List ℕ) (j a b c d : ℕ) → j ≤ 44 → a ≡ next w j → b ≡ next (set w (16 + j) a) (j + 1)
-    → c ≡ next (set (set w (16 + j) a) (16 + (j + 1)) b) (j + 2)
-    → d ≡ next (set (set (set w (16 + j) a) (16 + (j + 1)) b) (16 + (j + 2)) c) (j + 3)
-    → set (set (set (set w (16 + j) a) (16 + (j + 1)) b) (16 + (j + 2)) c) (16 + (j + 3)) d ≡ extended w j
-unfolding extended
-extended-is w j a b c d h p q r s = rw (s, r, q, p, le-leb j 44 h)
-
+-- past its end nothing is stored
 pub extended-none : (w : List ℕ) (j : ℕ) → 44 < j → w ≡ extended w j
 unfolding extended
 extended-none w j h = rw (lt-leb j 44 h)

@@ -1,11 +1,11 @@
 // SHA-256's compression (FIPS 180-4, 6.2.2): one block worked into a hash value, at full speed.
 // Promises upward: the hash value is the standard's.
 ghost use mathlib.Core.Path.{_≡_};
-ghost use Prim.Native.Nat.{ℕ, _+_, _-_, _*_, _≤_, _<_};
+ghost use Prim.Native.Nat.{_+_, _-_, _*_, _≤_, _<_};
 ghost use lib.ListN.{length, getD, take};
 ghost use Rattle.compression.specs.Functions.{ch, maj, Sum0, Sum1, sigma0, sigma1};
 ghost use Rattle.compression.specs.Compression.{K, round, plus, words, next, compress};
-ghost use Rattle.compression.specs.Steps.{upto, extended};
+ghost use Rattle.compression.specs.Steps.{upto, grown, extended};
 use std::num::wrapping_add_u32;
 
 // 4.2.2: the round constants. `K` is this table in the definitions.
@@ -184,15 +184,23 @@ fn loaded(b: &[u8]) -> [u32; 64]
     w
 }
 
+// Word 16 + j of a schedule, put in its place. Inner.
+fn grow(w: &mut [u32; 64], j: usize)
+    requires { ⌜ j < 48 ⌝ }
+    ensures { λ _. ⌜ now (w .exit) ≡ grown (now (w .entry)) j ⌝ }
+{
+    w[16 + j] = next_word(w, j);
+}
+
 // Four more words of the schedule, while there are any to come.
 fn extend(w: &mut [u32; 64], j: usize)
     ensures { λ _. ⌜ now (w .exit) ≡ extended (now (w .entry)) j ⌝ }
 {
     if j <= 44 {
-        w[16 + j] = next_word(w, j);
-        w[16 + (j + 1)] = next_word(w, j + 1);
-        w[16 + (j + 2)] = next_word(w, j + 2);
-        w[16 + (j + 3)] = next_word(w, j + 3);
+        grow(w, j);
+        grow(w, j + 1);
+        grow(w, j + 2);
+        grow(w, j + 3);
     }
 }
 
@@ -211,15 +219,23 @@ fn add_hash(s: Hash, t: Hash) -> Hash
     }
 }
 
+// Round i. Inner.
+fn round_at(s: Hash, k: &[u32; 64], w: &[u32; 64], i: usize) -> Hash
+    requires { ⌜ i < 64 ⌝ }
+    ensures { λ r. ⌜ r ≡ round (getD (now (k .entry)) i 0) (getD (now (w .entry)) i 0) s ⌝ }
+{
+    one_round(s, k[i], w[i])
+}
+
 // Four rounds, from round i on. Inner.
 fn four(s: Hash, k: &[u32; 64], w: &[u32; 64], i: usize) -> Hash
     requires { ⌜ i + 4 ≤ 64 ⌝ }
     ensures { λ r. ⌜ r ≡ upto (now (k .entry)) (now (w .entry)) i s 4 ⌝ }
 {
-    let a = one_round(s, k[i + 0], w[i + 0]);
-    let b = one_round(a, k[i + 1], w[i + 1]);
-    let c = one_round(b, k[i + 2], w[i + 2]);
-    one_round(c, k[i + 3], w[i + 3])
+    let a = round_at(s, k, w, i);
+    let b = round_at(a, k, w, i + 1);
+    let c = round_at(b, k, w, i + 2);
+    round_at(c, k, w, i + 3)
 }
 
 // The hash value s with the block b worked in; k is the table of constants. Schedule and rounds go side by side, four at a time. Inner.

@@ -2,7 +2,7 @@
 // Promises upward: verdict, state and every byte of the cache are the rules', for any lent cache and any state whose clock is below its
 // bound; the run's expanded key is passed in.
 ghost use mathlib.Core.Path.{_≡_};
-ghost use Prim.Native.Nat.{ℕ, _+_, _*_, _≤_};
+ghost use Prim.Native.Nat.{_+_, _*_, _≤_};
 ghost use lib.ListN.{length};
 ghost use Rattle.aes.specs.Aes.{expansion};
 ghost use Rattle.hash.specs.Hashes.{setBytes};

@@ -4,7 +4,7 @@
 // bound; the run's expanded key is passed in.
 ghost use mathlib.Core.Path.{_≡_};
 ghost use mathlib.Core.Bool.{true, false};
-ghost use Prim.Native.Nat.{ℕ, _+_, _*_, _≤_, _<_};
+ghost use Prim.Native.Nat.{_+_, _*_, _≤_, _<_};
 ghost use lib.ListN.{length};
 ghost use Rattle.aes.specs.Aes.{expansion};
 ghost use Rattle.value.specs.declared.Side.the-variants.{Link};

@@ -16,7 +16,7 @@ use Rattle.slot.specs.Slots.{slotBytes, tree}
 use Rattle.slot.proofs.Laws.{take-zeros, drop-zeros, slot-length}
 use Rattle.slot.proofs.Back.{Kept, zero-slot, slot-back}
 use Rattle.cache.specs.Caches.{count, openedCache}
-use Rattle.cache.proofs.Opened.{opened-bytes}
+use Rattle.cache.proofs.Opened.{opened-bytes, opened-count, root-kept}
 use Rattle.state.specs.States.{freshState}
 use Rattle.integrity.specs.Statement.{ofEpoch}
 use Rattle.integrity.proofs.Updates.{upd}
@@ -45,25 +45,12 @@ blank-slots (suc n) =
     let f : suc n * 192 - 192 ≡ n * 192 = omega arith in
     rw (take-zeros 192 (suc n * 192) (omega arith), drop-zeros 192 (suc n * 192), f, zero-slot, blank-slots n)
 
-root-kept : Kept tree rootKey bare
-unfolding wellKey clean
-root-kept =
-    record {
-      low = omega arith;
-      high = omega arith;
-      key = refl;
-      value = bare-good;
-      key-fits = record { len = lit< tt; w0 = lit< tt; w1 = lit< tt; w2 = lit< tt; w3 = lit< tt };
-      value-fits = (tt, tt);
-    }
-
 opened-slots : (n : ℕ) → slotsIn (openedCache n) ≡ recd tree rootKey bare ∷ replicate n none
 unfolding slotsOf openedCache
 opened-slots n =
     let b = slotBytes tree rootKey bare in
     let e : length b ≡ 192 = slot-length tree rootKey bare in
-    let m : count (openedCache n) ≡ suc n = ap (λ (k : ℕ). k / 192) (length-append b (zeros (n * 192))) ∙ rw (e, zeros-length (n * 192)) (omega arith) in
-    ap (λ (k : ℕ). slotsOf k (openedCache n)) m
+    ap (λ (k : ℕ). slotsOf k (openedCache n)) (opened-count n)
     ∙ rw (take-at b (zeros (n * 192)) 192 e, drop-at b (zeros (n * 192)) 192 e, slot-back tree rootKey bare root-kept, blank-slots n)
 
 pub opened-stands : (key : List ℕ) (n : ℕ)

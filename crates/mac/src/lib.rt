@@ -1,7 +1,7 @@
 // AES-CMAC (RFC 4493) over blocks: the subkeys, the chain and the last block.
 // Promises upward: the tag as a block is the standard's for a message of any length.
 ghost use mathlib.Core.Path.{_≡_};
-ghost use Prim.Native.Nat.{ℕ, _*_, _≤_, _<_};
+ghost use Prim.Native.Nat.{_*_, _≤_, _<_};
 ghost use lib.ListN.{length};
 ghost use Rattle.aes.specs.Aes.{keyWords};
 ghost use Rattle.mac.specs.Cmac.{zeroBlock, xorBlock, double, key1, whole, chain, padding, lastBlock, macBlock};

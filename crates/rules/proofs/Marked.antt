@@ -5,7 +5,7 @@ use mathlib.Core.Path.{_≡_, refl}
 use mathlib.Core.List.{List, [], _∷_, _++_}
 use mathlib.Core.Bool.{Bool, true, false}
 use lib.Dec.{eqb}
-use Rattle.words.specs.Choice.{pick, both, no}
+use Rattle.words.specs.Choice.{both}
 use Rattle.words.specs.Numbers.{numberAt, bytesOf, zeros}
 use Rattle.words.specs.Splices.{splice}
 use Rattle.key.specs.Keys.{dataKey, clean, wellKey, keyBytes, rawKey, keyAt, dataAt, dataBytes, keyEq, sameTop, above, bitAt, toward}
@@ -16,8 +16,6 @@ use Rattle.value.specs.declared.Side.{Side}
 use Rattle.value.specs.declared.Side.the-variants.{Empty, Link}
 use Rattle.value.specs.declared.Value.{Value}
 use Rattle.value.specs.declared.Value.the-variants as v
-use Rattle.message.specs.declared.Epoch.{Epoch}
-use Rattle.message.specs.declared.Time.{Time}
 use Rattle.entry.specs.Entries.{addTreeAt, addDeferredAt, pairOfSlots, evictDeferredAt, recordAt, absentAt, emptyAt, entryOf, headOf, readEntry, entryTag, entryBody, entryBytes}
 use Rattle.entry.specs.declared.Entry.{Entry}
 use Rattle.entry.specs.declared.Entry.the-variants.{AddTree, AddDeferred, EvictTree, EvictDeferred, EvictTreeDeferred, Get, Absent, Put, Advance, Close}
@@ -27,7 +25,7 @@ use Rattle.slot.specs.Slots.{slotBytes, allZero, slotAt}
 use Rattle.slot.specs.declared.Slot.{Slot}
 use Rattle.slot.specs.declared.Slot.the-variants as sl
 use Rattle.cache.specs.Caches.{slotIn, wellLength, heldIn, held, wellRecord, wellAt, wellFrom, wellCache, openedCache}
-use Rattle.state.specs.States.{wellState, addedCurrent, addedOld, evictedState, evictMessage, evicted, advancedState, closedState, freshState, openDef}
+use Rattle.state.specs.States.{wellState, addedCurrent, addedOld, evictedState, evictMessage, evicted, advancedState, closedState, freshState}
 use Rattle.state.specs.declared.State.{State}
 use Rattle.rules.specs.Adds.{linked, addLink, addNode, addUnder, addTree, namedEpoch, addInto, addDeferred}
 use Rattle.rules.specs.Evicts.{unlinked, evictLink, evictNode, evictUnder, evictBy, evictDeferred}

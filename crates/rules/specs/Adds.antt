@@ -1,7 +1,7 @@
 -- Entries 1 (add from tree: checks 4 5 6 7 8 10, then by link) and 2 (add deferred: checks 4 5 7 8 18 19 20).
 use Prim.Native.Nat.{ℕ, _-_}
 use mathlib.Core.List.{List}
-use mathlib.Core.Bool.{Bool, true, false}
+use mathlib.Core.Bool.{Bool, false}
 use lib.Dec.{leb, eqb}
 use Rattle.words.specs.Choice.{pick, both}
 use Rattle.verdict.specs.Verdicts.{notWell, noSlot, slotTaken, slotEmpty, keyHeld, wrongKind, noAncestor, otherBranch, markedDeferred, digestDiffers, notFirst, epochNotOpen, timeOutOfRange, countFull}
@@ -22,7 +22,6 @@ use Rattle.slot.specs.declared.Slot.{Slot}
 use Rattle.slot.specs.declared.Slot.the-variants as sl
 use Rattle.cache.specs.Caches.{count, slotIn, putSlot, held}
 use Rattle.state.specs.States.{countLimit, addedCurrent, addedOld}
-use Rattle.state.specs.declared.Tally.{Tally}
 use Rattle.state.specs.declared.Old.{Old}
 use Rattle.state.specs.declared.Old.the-variants.{Closed, Open}
 use Rattle.state.specs.declared.State.{State}

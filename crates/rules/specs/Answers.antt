@@ -1,7 +1,6 @@
 -- Entries 6 (get: checks 4 6 8 9 25), 7 (absent: 4 6 8 10 26) and 8 (put: 4 6 8 9).
 use Prim.Native.Nat.{ℕ}
 use mathlib.Core.List.{List}
-use mathlib.Core.Bool.{Bool, true, false}
 use lib.Dec.{leb}
 use Rattle.words.specs.Choice.{pick}
 use Rattle.verdict.specs.Verdicts.{notWell, noSlot, slotEmpty, wrongKind, otherKey, noAncestor, valueDiffers, absenceNotShown}

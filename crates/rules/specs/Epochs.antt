@@ -1,12 +1,9 @@
 -- Entries 9 (advance: checks 22 21) and 10 (close: 22 23 24).
-use Prim.Native.Nat.{ℕ}
-use mathlib.Core.Bool.{Bool, true, false}
 use lib.Dec.{leb, eqb}
 use Rattle.words.specs.Choice.{pick}
 use Rattle.verdict.specs.Verdicts.{accepted, epochFull, wrongMoment, countsDiffer, sumsDiffer}
 use Rattle.cmac.specs.Tags.{tagEq}
 use Rattle.state.specs.States.{epochLimit, advancedState, closedState}
-use Rattle.state.specs.declared.Tally.{Tally}
 use Rattle.state.specs.declared.Old.{Old}
 use Rattle.state.specs.declared.Old.the-variants.{Closed, Open}
 use Rattle.state.specs.declared.State.{State}

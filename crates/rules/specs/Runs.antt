@@ -2,7 +2,7 @@
 -- at 28, 1 or 3; the entry it stops at counts as met.
 use Prim.Native.Nat.{ℕ, zero, suc, _+_}
 use mathlib.Core.List.{List}
-use mathlib.Core.Bool.{Bool, true, false}
+use mathlib.Core.Bool.{Bool, true}
 use lib.ListN.{length, drop}
 use lib.Dec.{leb, eqb}
 use Rattle.words.specs.Choice.{pick, both}

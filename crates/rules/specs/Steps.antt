@@ -1,7 +1,7 @@
 -- One step, for any log, state and cache: 28, 1, 3, 2, then the table (document 01, "Verdict numbers").
 use Prim.Native.Nat.{ℕ}
 use mathlib.Core.List.{List}
-use mathlib.Core.Bool.{Bool, true, false}
+use mathlib.Core.Bool.{Bool}
 use Rattle.words.specs.Choice.{pick, both}
 use Rattle.verdict.specs.Verdicts.{notWell, malformed, short, wrongCache}
 use Rattle.entry.specs.Entries.{readEntry}

@@ -5,7 +5,6 @@
 // stand in the loop and not behind calls.
 // Promises upward: each entry is the standard's, for any byte.
 ghost use mathlib.Core.Path.{_≡_};
-ghost use Prim.Native.Nat.{ℕ};
 ghost use Rattle.sbox.specs.Field.{sub};
 ghost use Rattle.sbox.specs.Columns.{spread};
 

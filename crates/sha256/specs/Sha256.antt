@@ -7,7 +7,7 @@ use lib.ListN.{length, replicate}
 use Rattle.words.specs.Choice.{pick}
 use Rattle.words.specs.Numbers.{bytesOf}
 use Rattle.words.specs.Splices.{part}
-use Rattle.verdict.specs.Verdicts.{accepted, tooLong}
+use Rattle.verdict.specs.Verdicts.{accepted, tooLong, longest}
 pub use Rattle.compression.specs.declared.Hash.{Hash}
 unfoldable pub use Rattle.compression.specs.Compression.{K, words, next, schedule, round, rounds, compress}
 use Rattle.sha256.specs.declared.Answer.{Answer}
@@ -52,10 +52,6 @@ unfoldable pub sha256 : List ℕ → List ℕ
 sha256 m = hashBytes (hashOf m)
 
 -- ---- the public call
-
--- the longest message that is taken
-abbrev pub longest : ℕ
-longest = 65536
 
 -- a longer message: 30 and 32 zero bytes
 unfoldable pub digestOf : List ℕ → Answer

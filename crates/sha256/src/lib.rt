@@ -2,8 +2,8 @@
 // Promises upward: every digest equals the standard's, for a message of any length; the public call refuses a long one.
 ghost use mathlib.Core.Path.{_≡_};
 ghost use mathlib.Core.List.{_++_};
-ghost use Prim.Native.Nat.{ℕ, _+_, _-_, _*_, _/_, _%_, _^_, _≤_, _<_};
-ghost use lib.ListN.{length, take, drop};
+ghost use Prim.Native.Nat.{_+_, _-_, _*_, _/_, _%_, _^_, _<_};
+ghost use lib.ListN.{length, take};
 ghost use Rattle.words.specs.Numbers.{fourAt};
 ghost use Rattle.sha256.specs.Sha256.{K, H0, after, blocks, padding, hashOf, hashBytes, digestOf};
 use compression::Hash;
@@ -11,9 +11,6 @@ use compression::compressed;
 use compression::constants;
 use words::Four;
 use words::joined;
-
-// The longest message that the public calls take.
-pub const LONGEST: usize = 65536;
 
 // What the digest call answers: 0 and the digest, or 30 and zero bytes.
 pub struct Answer {
@@ -110,7 +107,7 @@ pub fn hash_bytes(s: Hash) -> [u8; 32]
 pub fn digest(m: &[u8]) -> Answer
     ensures { λ r. ⌜ r ≡ digestOf (now (m .entry)) ⌝ }
 {
-    if LONGEST < m.len() {
+    if verdict::LONGEST < m.len() {
         return Answer {
             verdict: verdict::TOO_LONG,
             bytes: [0; 32],

@@ -3,7 +3,7 @@
 // for a run, which knows its state and cache to be well formed and has made the expanded key, the same step without deciding that again.
 ghost use mathlib.Core.Path.{_≡_};
 ghost use mathlib.Core.Bool.{true};
-ghost use Prim.Native.Nat.{ℕ, _≤_};
+ghost use Prim.Native.Nat.{_≤_};
 ghost use Rattle.aes.specs.Aes.{expansion};
 ghost use Rattle.hash.specs.Hashes.{setBytes};
 ghost use Rattle.state.specs.States.{clockLimit, wellState};

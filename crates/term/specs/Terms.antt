@@ -5,8 +5,8 @@ use mathlib.Core.Bool.{Bool, true, false}
 use lib.Dec.{leb, ltb, eqb}
 use lib.ListN.{length, replicate}
 use Rattle.words.specs.Choice.{pick, both}
-use Rattle.verdict.specs.Verdicts.{accepted, badTerm, tooLong}
-use Rattle.sha256.specs.Sha256.{sha256, longest}
+use Rattle.verdict.specs.Verdicts.{accepted, badTerm, tooLong, longest}
+use Rattle.sha256.specs.Sha256.{sha256}
 use Rattle.sha256.specs.declared.Answer.{Answer}
 use Rattle.term.specs.declared.Match.{Match}
 

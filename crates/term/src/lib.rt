@@ -105,7 +105,7 @@ fn same_bytes(a: &[u8], b: &[u8]) -> bool
 pub fn has_fingerprint(sealed: &[u8], fingerprint: &[u8; 32]) -> Match
     ensures { λ r. ⌜ r ≡ matches (now (sealed .entry)) (now (fingerprint .entry)) ⌝ }
 {
-    if sha256::LONGEST < sealed.len() {
+    if verdict::LONGEST < sealed.len() {
         return Match {
             verdict: verdict::TOO_LONG,
             yes: false,

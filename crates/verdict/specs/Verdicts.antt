@@ -124,3 +124,7 @@ badTerm = 29
 -- message over 65,536 bytes
 abbrev pub tooLong : ℕ
 tooLong = 30
+
+-- the longest message that 30 does not refuse
+abbrev pub longest : ℕ
+longest = 65536

@@ -92,3 +92,6 @@ pub const BAD_TERM: u32 = 29;
 
 // message over 65,536 bytes
 pub const TOO_LONG: u32 = 30;
+
+// The longest message that 30 does not refuse.
+pub const LONGEST: usize = 65536;

@@ -1,76 +1,34 @@
-use Rattle.compression.proofs.Laws.{extended-is, extended-none}
+use borrow.Author.Tests.{le-leb}
+use Rattle.compression.specs.Steps.{extended}
+use Rattle.compression.proofs.Laws.{extended-none}
 use borrow.Author.Needs.{needs}
 use Rattle.compression.proofs.extend.Statement.{statement}
 use Rattle.compression.proofs.extend.Tie as tie
 
-next-word-requires : tie.Need-next-word-requires
-next-word-requires c κs = search needs
+grow-requires : tie.Need-grow-requires
+grow-requires c κs = search needs
 
-add-w : tie.Need-add-w
-add-w c = search needs
+add-grow : tie.Need-add-grow
+add-grow c = search needs
 
-mul-w : tie.Need-mul-w
-mul-w c = search needs
+grow-requires-2 : tie.Need-grow-requires-2
+grow-requires-2 c κs = search needs
 
-element-write-w : tie.Need-element-write-w
-element-write-w c = search needs
+add-grow-2 : tie.Need-add-grow-2
+add-grow-2 c = search needs
 
-add-next-word : tie.Need-add-next-word
-add-next-word c = search needs
+grow-requires-3 : tie.Need-grow-requires-3
+grow-requires-3 c κs = search needs
 
-next-word-requires-2 : tie.Need-next-word-requires-2
-next-word-requires-2 c κs = search needs
+add-grow-3 : tie.Need-add-grow-3
+add-grow-3 c = search needs
 
-add-w-2 : tie.Need-add-w-2
-add-w-2 c = search needs
-
-add-w-3 : tie.Need-add-w-3
-add-w-3 c = search needs
-
-mul-w-2 : tie.Need-mul-w-2
-mul-w-2 c = search needs
-
-element-write-w-2 : tie.Need-element-write-w-2
-element-write-w-2 c = search needs
-
-add-next-word-2 : tie.Need-add-next-word-2
-add-next-word-2 c = search needs
-
-next-word-requires-3 : tie.Need-next-word-requires-3
-next-word-requires-3 c κs = search needs
-
-add-w-4 : tie.Need-add-w-4
-add-w-4 c = search needs
-
-add-w-5 : tie.Need-add-w-5
-add-w-5 c = search needs
-
-mul-w-3 : tie.Need-mul-w-3
-mul-w-3 c = search needs
-
-element-write-w-3 : tie.Need-element-write-w-3
-element-write-w-3 c = search needs
-
-add-next-word-3 : tie.Need-add-next-word-3
-add-next-word-3 c = search needs
-
-next-word-requires-4 : tie.Need-next-word-requires-4
-next-word-requires-4 c κs = search needs
-
-add-w-6 : tie.Need-add-w-6
-add-w-6 c = search needs
-
-add-w-7 : tie.Need-add-w-7
-add-w-7 c = search needs
-
-mul-w-4 : tie.Need-mul-w-4
-mul-w-4 c = search needs
-
-element-write-w-4 : tie.Need-element-write-w-4
-element-write-w-4 c = search needs
+grow-requires-4 : tie.Need-grow-requires-4
+grow-requires-4 c κs = search needs
 
 returns : tie.Need-returns
-returns c = extended-is _ _ _ _ _ _ (c .before .before .before .before .before .before .before .before .if1 .taken) (c .before .before .before .before .before .before .next-word .ensures) (c .before .before .before .before .next-word2 .ensures) (c .before .before .next-word3 .ensures) (c .next-word4 .ensures)
+unfolding extended
+returns c = rw (le-leb _ 44 (c .before .before .before .before .before .before .before .before .if1 .taken), c .grow4 .ensures, c .before .before .grow3 .ensures, c .before .before .before .before .grow2 .ensures, c .before .before .before .before .before .before .grow .ensures)
 
 returns-2 : tie.Need-returns-2
 returns-2 c = extended-none _ _ (c .if1 .left)
@@ -79,27 +37,12 @@ pub extend-spec : {M : Type 1} → statement M
 extend-spec =
     tie.close
     (tie.spec
-    next-word-requires
-    add-w
-    mul-w
-    element-write-w
-    add-next-word
-    next-word-requires-2
-    add-w-2
-    add-w-3
-    mul-w-2
-    element-write-w-2
-    add-next-word-2
-    next-word-requires-3
-    add-w-4
-    add-w-5
-    mul-w-3
-    element-write-w-3
-    add-next-word-3
-    next-word-requires-4
-    add-w-6
-    add-w-7
-    mul-w-4
-    element-write-w-4
+    grow-requires
+    add-grow
+    grow-requires-2
+    add-grow-2
+    grow-requires-3
+    add-grow-3
+    grow-requires-4
     returns
     returns-2)

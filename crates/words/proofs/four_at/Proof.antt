@@ -26,7 +26,7 @@ word-at-requires-4 c κs = search needs
 
 returns : tie.Need-returns
 unfolding fourAt
-returns c = cc
+returns c = λ i. record { first = c .before .before .before .word-at .ensures i; second = c .before .before .word-at2 .ensures i; third = c .before .word-at3 .ensures i; fourth = c .word-at4 .ensures i }
 
 pub four-at-spec : {M : Type 1} → statement M
 four-at-spec =

@@ -28,7 +28,12 @@ same-length : tie.Need-same-length
 same-length c = search needs
 
 returns : tie.Need-returns
-returns c = put-join 3 1 _ _ _ _ _ (put-join 2 1 _ _ _ _ _ (put-join 1 1 _ _ _ _ _ (c .before .before .before .before .before .before .before .before .before .before .before .before .before .before .put-byte .ensures) (c .before .before .before .before .before .before .before .before .before .before .put-byte2 .ensures) (search needs)) (c .before .before .before .before .before .before .put-byte3 .ensures) (search needs)) (c .before .before .put-byte4 .ensures) (search needs)
+returns c =
+    let w4 = c .before .before in
+    let w3 = w4 .before .before .before .before in
+    let w2 = w3 .before .before .before .before in
+    let w1 = w2 .before .before .before .before in
+    put-join 3 1 _ _ _ _ _ (put-join 2 1 _ _ _ _ _ (put-join 1 1 _ _ _ _ _ (w1 .put-byte .ensures) (w2 .put-byte2 .ensures) (search needs)) (w3 .put-byte3 .ensures) (search needs)) (w4 .put-byte4 .ensures) (search needs)
 
 pub put-quad-spec : {M : Type 1} → statement M
 put-quad-spec =

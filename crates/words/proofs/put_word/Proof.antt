@@ -52,7 +52,16 @@ same-length : tie.Need-same-length
 same-length c = search needs
 
 returns : tie.Need-returns
-returns c = put-join 7 1 _ _ _ _ _ (put-join 6 1 _ _ _ _ _ (put-join 5 1 _ _ _ _ _ (put-join 4 1 _ _ _ _ _ (put-join 3 1 _ _ _ _ _ (put-join 2 1 _ _ _ _ _ (put-join 1 1 _ _ _ _ _ (c .before .before .before .before .before .before .before .before .before .before .before .before .before .before .before .before .before .before .before .before .before .before .before .before .before .before .before .before .before .before .put-byte .ensures) (c .before .before .before .before .before .before .before .before .before .before .before .before .before .before .before .before .before .before .before .before .before .before .before .before .before .before .put-byte2 .ensures) (search needs)) (c .before .before .before .before .before .before .before .before .before .before .before .before .before .before .before .before .before .before .before .before .before .before .put-byte3 .ensures) (search needs)) (c .before .before .before .before .before .before .before .before .before .before .before .before .before .before .before .before .before .before .put-byte4 .ensures) (search needs)) (c .before .before .before .before .before .before .before .before .before .before .before .before .before .before .put-byte5 .ensures) (search needs)) (c .before .before .before .before .before .before .before .before .before .before .put-byte6 .ensures) (search needs)) (c .before .before .before .before .before .before .put-byte7 .ensures) (search needs)) (c .before .before .put-byte8 .ensures) (search needs)
+returns c =
+    let w8 = c .before .before in
+    let w7 = w8 .before .before .before .before in
+    let w6 = w7 .before .before .before .before in
+    let w5 = w6 .before .before .before .before in
+    let w4 = w5 .before .before .before .before in
+    let w3 = w4 .before .before .before .before in
+    let w2 = w3 .before .before .before .before in
+    let w1 = w2 .before .before .before .before in
+    put-join 7 1 _ _ _ _ _ (put-join 6 1 _ _ _ _ _ (put-join 5 1 _ _ _ _ _ (put-join 4 1 _ _ _ _ _ (put-join 3 1 _ _ _ _ _ (put-join 2 1 _ _ _ _ _ (put-join 1 1 _ _ _ _ _ (w1 .put-byte .ensures) (w2 .put-byte2 .ensures) (search needs)) (w3 .put-byte3 .ensures) (search needs)) (w4 .put-byte4 .ensures) (search needs)) (w5 .put-byte5 .ensures) (search needs)) (w6 .put-byte6 .ensures) (search needs)) (w7 .put-byte7 .ensures) (search needs)) (w8 .put-byte8 .ensures) (search needs)
 
 pub put-word-spec : {M : Type 1} → statement M
 put-word-spec =

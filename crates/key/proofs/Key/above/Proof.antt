@@ -41,7 +41,7 @@ and-requires-4 c κs = search needs
 
 returns : tie.Need-returns
 unfolding above
-returns c = cc
+returns c = rw (c .and4 .ensures, c .before .before .before .and3 .ensures, c .before .before .before .before .and2 .ensures, c .before .before .before .before .before .same-top4 .ensures, c .before .before .before .before .before .before .less3 .ensures, c .before .before .before .before .before .before .before .same-top3 .ensures, c .before .before .before .before .before .before .before .before .and .ensures, c .before .before .before .before .before .before .before .before .before .same-top2 .ensures, c .before .before .before .before .before .before .before .before .before .before .less2 .ensures, c .before .before .before .before .before .before .before .before .before .before .before .same-top .ensures, c .before .before .before .before .before .before .before .before .before .before .before .before .less .ensures)
 
 pub above-spec : {M : Type 1} → statement M
 above-spec =

@@ -17,7 +17,7 @@ and-requires-4 c κs = search needs
 
 returns : tie.Need-returns
 unfolding keyEq
-returns c = cc
+returns c = rw (c .and4 .ensures, c .before .and3 .ensures, c .before .before .and2 .ensures, c .before .before .before .before .before .before .before .before .before .and .ensures)
 
 pub same-spec : {M : Type 1} → statement M
 same-spec = tie.close (tie.spec and-requires and-requires-2 and-requires-3 and-requires-4 returns)

@@ -41,7 +41,7 @@ and-requires-4 c κs = search needs
 
 returns : tie.Need-returns
 unfolding wellKey
-returns c = cc
+returns c = rw (c .and4 .ensures, c .before .before .and3 .ensures, c .before .before .before .and2 .ensures, c .before .before .before .before .clean4 .ensures, c .before .before .before .before .before .less3 .ensures, c .before .before .before .before .before .before .clean3 .ensures, c .before .before .before .before .before .before .before .and .ensures, c .before .before .before .before .before .before .before .before .clean2 .ensures, c .before .before .before .before .before .before .before .before .before .less2 .ensures, c .before .before .before .before .before .before .before .before .before .before .clean .ensures, c .before .before .before .before .before .before .before .before .before .before .before .less .ensures)
 
 pub well-spec : {M : Type 1} → statement M
 well-spec =

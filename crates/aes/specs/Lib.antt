@@ -1,3 +1,2 @@
--- AES-128: the definitions follow FIPS 197, and its worked examples are computed from them.
+-- AES-128: the definitions follow FIPS 197. Its worked examples are computed from them in crate vectors.
 pub mod Aes
-pub mod Vectors

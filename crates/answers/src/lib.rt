@@ -1,5 +1,6 @@
 // Entries 6, 7 and 8, once their bodies are read: get, absent and put. Each looks at one slot, and none works a digest or a tag.
-// Promises upward: verdict, state and every byte of the cache are the rules', for any state and any lent cache.
+// Promises upward: verdict, state and every byte of the cache are the rules', for any state and any lent cache; of a get and an absence
+// nothing comes but the verdict.
 ghost use mathlib.Core.Path.{_≡_};
 ghost use Rattle.rules.specs.Outcomes.{outcome};
 ghost use Rattle.rules.specs.Answers.{get, absentSide, absentNode, absent, put};
@@ -18,92 +19,92 @@ use value::Side;
 use value::Value;
 
 // 6: s, key, value. The slot's value equals the given one.
-pub fn get(s: u16, k: Key, v: Value, st: State, cache: &[u8]) -> Done
-    ensures { λ r. ⌜ outcome r (now (cache .entry)) ≡ get s k v st (now (cache .entry)) ⌝ }
+pub fn get(s: u16, k: Key, v: Value, cache: &[u8]) -> u32
+    ensures { λ r. ⌜ r ≡ get s k v (now (cache .entry)) ⌝ }
 {
     let i = s as usize;
     if cache.len() / SLOT_BYTES <= i {
-        return gives(verdict::NO_SLOT, st);
+        return verdict::NO_SLOT;
     }
     match slot_of(cache, i) {
-        Slot::Free => gives(verdict::SLOT_EMPTY, st),
-        Slot::Bad => gives(verdict::NOT_WELL, st),
+        Slot::Free => verdict::SLOT_EMPTY,
+        Slot::Bad => verdict::NOT_WELL,
         Slot::Full {
             origin: _,
             key: j,
             value: y,
         } => {
             if is_node(v) {
-                return gives(verdict::WRONG_KIND, st);
+                return verdict::WRONG_KIND;
             }
             if is_node(y) {
-                return gives(verdict::WRONG_KIND, st);
+                return verdict::WRONG_KIND;
             }
             if j.same(k) {
                 if same_value(y, v) {
-                    return gives(verdict::ACCEPTED, st);
+                    return verdict::ACCEPTED;
                 }
-                return gives(verdict::VALUE_DIFFERS, st);
+                return verdict::VALUE_DIFFERS;
             }
-            gives(verdict::OTHER_KEY, st)
+            verdict::OTHER_KEY
         }
     }
 }
 
 // 26: p's side toward the key is empty, or its link's key is neither our key nor an ancestor of it.
-fn absent_side(k: Key, st: State, cache: &[u8], x: Side) -> Done
-    ensures { λ r. ⌜ outcome r (now (cache .entry)) ≡ absentSide k st (now (cache .entry)) x ⌝ }
+fn absent_side(k: Key, x: Side) -> u32
+    ensures { λ r. ⌜ r ≡ absentSide k x ⌝ }
 {
     match x {
-        Side::Empty => gives(verdict::ACCEPTED, st),
+        Side::Empty => verdict::ACCEPTED,
         Side::Link {
             key: lk,
             digest: _,
             mark: _,
         } => {
             if lk.same(k) {
-                return gives(verdict::ABSENCE_NOT_SHOWN, st);
+                return verdict::ABSENCE_NOT_SHOWN;
             }
             if lk.above(k) {
-                return gives(verdict::ABSENCE_NOT_SHOWN, st);
+                return verdict::ABSENCE_NOT_SHOWN;
             }
-            gives(verdict::ACCEPTED, st)
+            verdict::ACCEPTED
         }
     }
 }
 
 // 8 of p, 10.
-fn absent_node(pk: Key, k: Key, st: State, cache: &[u8], pv: Value) -> Done
-    ensures { λ r. ⌜ outcome r (now (cache .entry)) ≡ absentNode pk k st (now (cache .entry)) pv ⌝ }
+fn absent_node(pk: Key, k: Key, pv: Value) -> u32
+    ensures { λ r. ⌜ r ≡ absentNode pk k pv ⌝ }
 {
     match pv {
-        Value::None => gives(verdict::WRONG_KIND, st),
-        Value::Fingerprint(_) => gives(verdict::WRONG_KIND, st),
+        Value::None => verdict::WRONG_KIND,
+        Value::Fingerprint(_) => verdict::WRONG_KIND,
         Value::Node(n) => {
             if pk.above(k) {
-                return absent_side(k, st, cache, side_of(n, pk.toward(k)));
+                return absent_side(k, side_of(n, pk.toward(k)));
             }
-            gives(verdict::NO_ANCESTOR, st)
+            verdict::NO_ANCESTOR
         }
     }
 }
 
 // 7: p, key.
-pub fn absent(p: u16, k: Key, st: State, cache: &[u8]) -> Done
-    ensures { λ r. ⌜ outcome r (now (cache .entry)) ≡ absent p k st (now (cache .entry)) ⌝ }
+pub fn absent(p: u16, k: Key, cache: &[u8]) -> u32
+    ensures { λ r. ⌜ r ≡ absent p k (now (cache .entry)) ⌝ }
 {
     let i = p as usize;
     if cache.len() / SLOT_BYTES <= i {
-        return gives(verdict::NO_SLOT, st);
+        return verdict::NO_SLOT;
     }
     match slot_of(cache, i) {
-        Slot::Free => gives(verdict::SLOT_EMPTY, st),
-        Slot::Bad => gives(verdict::NOT_WELL, st),
+        Slot::Free => verdict::SLOT_EMPTY,
+        Slot::Bad => verdict::NOT_WELL,
         Slot::Full {
             origin: _,
             key: pk,
             value: pv,
-        } => absent_node(pk, k, st, cache, pv),
+        } => absent_node(pk, k, pv),
     }
 }
 

@@ -28,8 +28,7 @@ pub mod Messages
 pub mod Opened
 pub mod Replay
 pub mod Settled
--- the theorem, and what shows that it says neither more nor less
+-- the theorem, and with which epoch an answer goes out
 pub mod Demand3
 pub mod RunOver
-pub mod Traps
 pub mod AnswerEpoch

@@ -2,20 +2,18 @@
 use mathlib.Core.Path.{_≡_, refl, sym, _∙_, ap, subst}
 use mathlib.Core.Option.{none, some}
 use mathlib.Core.List.{List, _∷_}
-use Prim.Native.Nat.{ℕ, zero, suc, _*_, _-_, _/_, _<_}
+use Prim.Native.Nat.{ℕ, zero, suc, _*_, _-_}
 use native.Mathlib.Omega.{arith}
-use lib.Dec.{lit<}
-use lib.ListN.{length, length-append, replicate}
+use lib.ListN.{length, replicate}
 use lib.Seq.{take-at, drop-at}
 use Rattle.words.specs.Numbers.{zeros}
-use Rattle.words.proofs.Laws.{zeros-length}
 use Rattle.cmac.specs.declared.Tag.{Tag}
-use Rattle.key.specs.Keys.{rootKey, isData, wellKey, clean}
+use Rattle.key.specs.Keys.{rootKey, isData}
 use Rattle.hash.specs.Hashes.{setKey, digestOf, tagOf}
 use Rattle.slot.specs.Slots.{slotBytes, tree}
 use Rattle.slot.proofs.Laws.{take-zeros, drop-zeros, slot-length}
-use Rattle.slot.proofs.Back.{Kept, zero-slot, slot-back}
-use Rattle.cache.specs.Caches.{count, openedCache}
+use Rattle.slot.proofs.Back.{zero-slot, slot-back}
+use Rattle.cache.specs.Caches.{openedCache}
 use Rattle.cache.proofs.Opened.{opened-bytes, opened-count, root-kept}
 use Rattle.state.specs.States.{freshState}
 use Rattle.integrity.specs.Statement.{ofEpoch}
@@ -26,7 +24,7 @@ use Rattle.integrity.proofs.Slots.{look, Unique}
 use Rattle.integrity.proofs.Caches.{slotsOf, slotsIn, recd}
 use Rattle.integrity.proofs.Tallies.{tags, no-old}
 use Rattle.integrity.proofs.Lane.{opened-lane}
-use Rattle.integrity.proofs.Refines.{bare-good, Stands}
+use Rattle.integrity.proofs.Refines.{Stands}
 
 look-blank : (n : ℕ) → look (replicate n none) ≡ (λ k. none)
 unfolding look

@@ -1,3 +1,2 @@
--- AES-CMAC (RFC 4493): the definitions in its order, and its worked examples computed from them.
+-- AES-CMAC (RFC 4493): the definitions in its order. Its worked examples are computed from them in crate vectors.
 pub mod Cmac
-pub mod Vectors

@@ -4,13 +4,14 @@ use mathlib.Core.Bool.{Bool, true, false}
 use mathlib.Core.List.{List}
 use Prim.Native.Nat.{ℕ, _-_}
 use lib.Dec.{eqb, leb}
+use borrow.Author.Tests.{eqb-true}
 use Rattle.words.specs.Choice.{pick}
 use Rattle.words.proofs.Laws.{both-true}
-use Rattle.verdict.specs.Verdicts.{accepted, notWell, malformed, short, noSlot, slotTaken, slotEmpty, keyHeld, wrongKind, otherKey, noAncestor, noLink, otherBranch, markedDeferred, digestDiffers, notFirst, wrongOrigin, rootSlot, epochNotOpen, timeOutOfRange, countFull, epochFull, wrongMoment, countsDiffer, sumsDiffer, valueDiffers, absenceNotShown, wrongCache}
+use Rattle.verdict.specs.Verdicts.{accepted, notWell, malformed, short, noSlot, slotTaken, slotEmpty, keyHeld, wrongKind, otherKey, noAncestor, noLink, otherBranch, markedDeferred, digestDiffers, notFirst, wrongOrigin, rootSlot, epochNotOpen, timeOutOfRange, countFull, epochFull, wrongMoment, countsDiffer, sumsDiffer, wrongCache}
 use Rattle.cmac.specs.Tags.{tagEq}
 use Rattle.key.specs.Keys.{keyEq, above, toward}
 use Rattle.key.specs.declared.Key.{Key}
-use Rattle.value.specs.Values.{digestEq, isNode, isFirst, fits, valueEq, sideOf}
+use Rattle.value.specs.Values.{digestEq, isNode, isFirst, fits, sideOf}
 use Rattle.value.specs.declared.Side.{Side}
 use Rattle.value.specs.declared.Side.the-variants.{Empty, Link}
 use Rattle.value.specs.declared.Node.{Node}
@@ -36,7 +37,7 @@ use Rattle.rules.specs.Outcomes.{Outcome, outcome, refuses, accepts}
 use Rattle.rules.specs.Adds.{addSide, addLink, addNode, addTo, addUnder, addAt, addTree, namedEpoch, inTime, addNamed, addInto, deferAt, addDeferred}
 use Rattle.rules.specs.Evicts.{evictSide, evictLink, evictNode, evictTo, evictUnder, evictAt, evictBy, deferredAt, evictDeferred}
 use Rattle.rules.specs.Answers as answers
-use Rattle.rules.specs.Answers.{getSlot, absentSide, absentNode, absentSlot, putInto}
+use Rattle.rules.specs.Answers.{putInto}
 use Rattle.rules.specs.Epochs as epochs
 use Rattle.rules.specs.Epochs.{advanceOld, closeOld}
 use Rattle.rules.specs.Steps.{Step, entryStep, taking, stepRead, stepWell, wellFormed, step}
@@ -149,27 +150,16 @@ module _ (st : State) (c : List ℕ) where
   unfolding evictDeferred
   evict-deferred s = by (leb (count c) s) (no noSlot refl) (by (eqb s 0) (no rootSlot refl) (deferred-at s (slotIn c s)))
 
-  -- ---- 6 to 8
+  -- ---- 6 and 7: a verdict alone
 
-  get-slot : (k : Key) (x : Value) (z : Slot) → Settles (getSlot k x st c z)
-  get-slot k x sl.Free = no slotEmpty refl
-  get-slot k x sl.Bad = no notWell refl
-  get-slot k x (sl.Full o j y) =
-      by (isNode x) (no wrongKind refl) (by (isNode y) (no wrongKind refl) (by (keyEq j k) (by (valueEq y x) (ok _ _) (no valueDiffers refl)) (no otherKey refl)))
+  told : (n : ℕ) → Settles (refuses n st c)
+  told n = go (eqb n accepted) refl
+    where
+      go : (b : Bool) → eqb n accepted ≡ b → Settles (refuses n st c)
+      go true e = took st c (ap (λ (m : ℕ). refuses m st c) (eqb-true n accepted e))
+      go false e = no n e
 
-  absent-side : (k : Key) (y : Side) → Settles (absentSide k st c y)
-  absent-side k Empty = ok _ _
-  absent-side k (Link lk ld lm) = by (keyEq lk k) (no absenceNotShown refl) (by (above lk k) (no absenceNotShown refl) (ok _ _))
-
-  absent-node : (pk k : Key) (y : Value) → Settles (absentNode pk k st c y)
-  absent-node pk k v.None = no wrongKind refl
-  absent-node pk k (v.Fingerprint d) = no wrongKind refl
-  absent-node pk k (v.Node n) = by (above pk k) (absent-side k (sideOf n (toward pk k))) (no noAncestor refl)
-
-  absent-slot : (k : Key) (z : Slot) → Settles (absentSlot k st c z)
-  absent-slot k sl.Free = no slotEmpty refl
-  absent-slot k sl.Bad = no notWell refl
-  absent-slot k (sl.Full o pk y) = absent-node pk k y
+  -- ---- 8
 
   put-into : (s : ℕ) (k : Key) (x : Value) (z : Slot) → Settles (putInto s k x st c z)
   put-into s k x sl.Free = no slotEmpty refl
@@ -193,14 +183,14 @@ module _ (st : State) (c : List ℕ) where
   -- ---- every entry
 
   pub entry-settles : (e : Entry) → Settles (entryStep e st c)
-  unfolding entryStep answers.get answers.absent answers.put epochs.advance epochs.close
+  unfolding entryStep answers.put epochs.advance epochs.close
   entry-settles (AddTree s p k x) = add-tree s p k x
   entry-settles (AddDeferred s e t k x) = add-deferred s e t k x
   entry-settles (EvictTree s p) = evict-by false s p
   entry-settles (EvictDeferred s) = evict-deferred s
   entry-settles (EvictTreeDeferred s p) = evict-by true s p
-  entry-settles (Get s k x) = by (leb (count c) s) (no noSlot refl) (get-slot k x (slotIn c s))
-  entry-settles (Absent p k) = by (leb (count c) p) (no noSlot refl) (absent-slot k (slotIn c p))
+  entry-settles (Get s k x) = told (answers.get s k x c)
+  entry-settles (Absent p k) = told (answers.absent p k c)
   entry-settles (Put s k x) = by (leb (count c) s) (no noSlot refl) (put-into s k x (slotIn c s))
   entry-settles Advance = advance-old (st .old)
   entry-settles Close = close-old (st .old)

@@ -3,7 +3,7 @@ use Prim.Native.Nat.{ℕ}
 use mathlib.Core.List.{List}
 use lib.Dec.{leb}
 use Rattle.words.specs.Choice.{pick}
-use Rattle.verdict.specs.Verdicts.{notWell, noSlot, slotEmpty, wrongKind, otherKey, noAncestor, valueDiffers, absenceNotShown}
+use Rattle.verdict.specs.Verdicts.{accepted, notWell, noSlot, slotEmpty, wrongKind, otherKey, noAncestor, valueDiffers, absenceNotShown}
 use Rattle.key.specs.Keys.{keyEq, above, toward}
 use Rattle.key.specs.declared.Key.{Key}
 use Rattle.value.specs.Values.{isNode, valueEq, sideOf}
@@ -17,39 +17,35 @@ use Rattle.cache.specs.Caches.{count, slotIn, putSlot}
 use Rattle.state.specs.declared.State.{State}
 use Rattle.rules.specs.Outcomes.{Outcome, refuses, accepts}
 
--- ---- 6: s, key, value. The slot's value equals the given one
+-- ---- 6: s, key, value. The slot's value equals the given one. The verdict; nothing else comes of it
 
-abbrev pub getSlot : Key → Value → State → List ℕ → Slot → Outcome
-getSlot k x st c sl.Free = refuses slotEmpty st c
-getSlot k x st c sl.Bad = refuses notWell st c
-getSlot k x st c (sl.Full o j y) =
-    pick (isNode x) (refuses wrongKind st c)
-    (pick (isNode y) (refuses wrongKind st c)
-    (pick (keyEq j k) (pick (valueEq y x) (accepts st c) (refuses valueDiffers st c)) (refuses otherKey st c)))
+abbrev pub getSlot : Key → Value → Slot → ℕ
+getSlot k x sl.Free = slotEmpty
+getSlot k x sl.Bad = notWell
+getSlot k x (sl.Full o j y) =
+    pick (isNode x) wrongKind (pick (isNode y) wrongKind (pick (keyEq j k) (pick (valueEq y x) accepted valueDiffers) otherKey))
 
-unfoldable pub get : ℕ → Key → Value → State → List ℕ → Outcome
-get s k x st c = pick (leb (count c) s) (refuses noSlot st c) (getSlot k x st c (slotIn c s))
+unfoldable pub get : ℕ → Key → Value → List ℕ → ℕ
+get s k x c = pick (leb (count c) s) noSlot (getSlot k x (slotIn c s))
 
--- ---- 7: p, key. p's side toward the key is empty, or its link's key is neither our key nor an ancestor of it
+-- ---- 7: p, key. p's side toward the key is empty, or its link's key is neither our key nor an ancestor of it. The verdict, as in 6
 
-abbrev pub absentSide : Key → State → List ℕ → Side → Outcome
-absentSide k st c Empty = accepts st c
-absentSide k st c (Link lk ld lm) =
-    pick (keyEq lk k) (refuses absenceNotShown st c) (pick (above lk k) (refuses absenceNotShown st c) (accepts st c))
+abbrev pub absentSide : Key → Side → ℕ
+absentSide k Empty = accepted
+absentSide k (Link lk ld lm) = pick (keyEq lk k) absenceNotShown (pick (above lk k) absenceNotShown accepted)
 
-abbrev pub absentNode : Key → Key → State → List ℕ → Value → Outcome
-absentNode pk k st c v.None = refuses wrongKind st c
-absentNode pk k st c (v.Fingerprint d) = refuses wrongKind st c
-absentNode pk k st c (v.Node n) =
-    pick (above pk k) (absentSide k st c (sideOf n (toward pk k))) (refuses noAncestor st c)
+abbrev pub absentNode : Key → Key → Value → ℕ
+absentNode pk k v.None = wrongKind
+absentNode pk k (v.Fingerprint d) = wrongKind
+absentNode pk k (v.Node n) = pick (above pk k) (absentSide k (sideOf n (toward pk k))) noAncestor
 
-abbrev pub absentSlot : Key → State → List ℕ → Slot → Outcome
-absentSlot k st c sl.Free = refuses slotEmpty st c
-absentSlot k st c sl.Bad = refuses notWell st c
-absentSlot k st c (sl.Full o pk pv) = absentNode pk k st c pv
+abbrev pub absentSlot : Key → Slot → ℕ
+absentSlot k sl.Free = slotEmpty
+absentSlot k sl.Bad = notWell
+absentSlot k (sl.Full o pk pv) = absentNode pk k pv
 
-unfoldable pub absent : ℕ → Key → State → List ℕ → Outcome
-absent p k st c = pick (leb (count c) p) (refuses noSlot st c) (absentSlot k st c (slotIn c p))
+unfoldable pub absent : ℕ → Key → List ℕ → ℕ
+absent p k c = pick (leb (count c) p) noSlot (absentSlot k (slotIn c p))
 
 -- ---- 8: s, key, value. The value is replaced
 

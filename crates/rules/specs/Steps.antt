@@ -12,7 +12,7 @@ use Rattle.entry.specs.declared.Reading.the-variants as reading
 use Rattle.cache.specs.Caches.{wellLength, wellCache}
 use Rattle.state.specs.States.{wellState}
 use Rattle.state.specs.declared.State.{State}
-use Rattle.rules.specs.Outcomes.{Outcome, outcome, refuses}
+use Rattle.rules.specs.Outcomes.{Outcome, outcome, gives, refuses}
 use Rattle.rules.specs.Adds.{addTree, addDeferred}
 use Rattle.rules.specs.Evicts.{evictTree, evictDeferred, evictTreeDeferred}
 use Rattle.rules.specs.Answers.{get, absent, put}
@@ -27,8 +27,8 @@ entryStep (AddDeferred s e t k x) st c = addDeferred s e t k x st c
 entryStep (EvictTree s p) st c = evictTree s p st c
 entryStep (EvictDeferred s) st c = evictDeferred s st c
 entryStep (EvictTreeDeferred s p) st c = evictTreeDeferred s p st c
-entryStep (Get s k x) st c = get s k x st c
-entryStep (Absent p k) st c = absent p k st c
+entryStep (Get s k x) st c = outcome (gives (get s k x c) st) c
+entryStep (Absent p k) st c = outcome (gives (absent p k c) st) c
 entryStep (Put s k x) st c = put s k x st c
 entryStep Advance st c = outcome (advance st) c
 entryStep Close st c = outcome (close st) c

@@ -13,13 +13,13 @@ use Rattle.words.specs.Choice.{pick}
 use Rattle.words.specs.Numbers.{Bytes}
 use Rattle.words.specs.Splices.{part}
 use Rattle.words.proofs.Laws.{never, picked, both-true, true-both, part-bytes}
-use Rattle.verdict.specs.Verdicts.{notWell, noSlot, slotTaken, slotEmpty, keyHeld, wrongKind, otherKey, noAncestor, noLink, otherBranch, markedDeferred, digestDiffers, notFirst, wrongOrigin, rootSlot, epochNotOpen, timeOutOfRange, countFull, epochFull, wrongMoment, countsDiffer, sumsDiffer, valueDiffers, absenceNotShown, accepted, short, malformed}
+use Rattle.verdict.specs.Verdicts.{notWell, noSlot, slotTaken, slotEmpty, keyHeld, wrongKind, otherKey, noAncestor, noLink, otherBranch, markedDeferred, digestDiffers, notFirst, wrongOrigin, rootSlot, epochNotOpen, timeOutOfRange, countFull, epochFull, wrongMoment, countsDiffer, sumsDiffer, short, malformed}
 use Rattle.cmac.specs.Tags.{tagEq}
 use Rattle.cmac.specs.declared.Tag.{Tag}
 use Rattle.key.specs.Keys.{keyEq, above, toward, isData, wellKey, KeyFits}
 use Rattle.key.specs.declared.Key.{Key}
 use Rattle.key.proofs.Laws.{keyEq-true}
-use Rattle.value.specs.Values.{digestEq, isNode, isFirst, fits, valueEq, bareNode, sideOf, withSide, wellSide, wellValue, SideFits, ValueFits}
+use Rattle.value.specs.Values.{digestEq, isNode, isFirst, fits, bareNode, sideOf, withSide, wellSide, wellValue, SideFits, ValueFits}
 use Rattle.value.specs.declared.Digest.{Digest}
 use Rattle.value.specs.declared.Side.{Side}
 use Rattle.value.specs.declared.Side.the-variants.{Empty, Link}
@@ -55,7 +55,7 @@ use Rattle.rules.specs.Outcomes.{Outcome, outcome, refuses, accepts}
 use Rattle.rules.specs.Adds.{linked, addSide, addLink, addNode, addTo, addUnder, addAt, addTree, namedEpoch, namedOld, inTime, addMessage, addNamed, addInto, deferAt, addDeferred}
 use Rattle.rules.specs.Evicts.{unlinked, evictSide, evictLink, evictNode, evictTo, evictUnder, evictAt, evictBy, deferredAt, evictDeferred}
 use Rattle.rules.specs.Answers as answers
-use Rattle.rules.specs.Answers.{getSlot, absentSide, absentNode, absentSlot, putInto}
+use Rattle.rules.specs.Answers.{putInto}
 use Rattle.rules.specs.Epochs as epochs
 use Rattle.rules.specs.Epochs.{advanceOld, closeOld}
 use Rattle.rules.specs.Steps.{Step, entryStep, taking, stepRead, stepWell, wellFormed, step}
@@ -172,7 +172,7 @@ brought-kept : (o : ℕ) (k : Key) (x : Value) → 1 ≤ o → o ≤ 2 → Broug
 brought-kept o k x l h a = record { low = l; high = h; key = a .key; value = a .value; key-fits = a .key-fits; value-fits = a .value-fits }
 
 module _ (st : State) (c : List ℕ) (w : wellState st ≡ true) (s : WellSlots c) (b : Bytes c) where
-  -- refused
+  -- a verdict alone, of a refusal or an answer
   nay : (n : ℕ) → Keeps st c (refuses n st c)
   nay n = record { state = w; set = refl; slots = s; size = refl }
 
@@ -412,31 +412,6 @@ module _ (st : State) (c : List ℕ) (w : wellState st ≡ true) (s : WellSlots 
       by (leb (count c) i) (λ _. nay noSlot)
       (λ h. by (eqb i 0) (λ _. nay rootSlot) (λ z. deferred-at i (leb-false (count c) i h) (positive i z) (slotIn c i)))
 
-  -- ---- 6 and 7: nothing changes
-
-  get-slot : (k : Key) (x : Value) (z : Slot) → Keeps st c (getSlot k x st c z)
-  get-slot k x sl.Free = nay slotEmpty
-  get-slot k x sl.Bad = nay notWell
-  get-slot k x (sl.Full o j y) =
-      by (isNode x) (λ _. nay wrongKind)
-      (λ _. by (isNode y) (λ _. nay wrongKind)
-      (λ _. by (keyEq j k) (λ _. by (valueEq y x) (λ _. nay accepted) (λ _. nay valueDiffers)) (λ _. nay otherKey)))
-
-  absent-side : (k : Key) (y : Side) → Keeps st c (absentSide k st c y)
-  absent-side k Empty = nay accepted
-  absent-side k (Link lk ld lm) =
-      by (keyEq lk k) (λ _. nay absenceNotShown) (λ _. by (above lk k) (λ _. nay absenceNotShown) (λ _. nay accepted))
-
-  absent-node : (pk k : Key) (y : Value) → Keeps st c (absentNode pk k st c y)
-  absent-node pk k v.None = nay wrongKind
-  absent-node pk k (v.Fingerprint d) = nay wrongKind
-  absent-node pk k (v.Node n) = by (above pk k) (λ _. absent-side k (sideOf n (toward pk k))) (λ _. nay noAncestor)
-
-  absent-slot : (k : Key) (z : Slot) → Keeps st c (absentSlot k st c z)
-  absent-slot k sl.Free = nay slotEmpty
-  absent-slot k sl.Bad = nay notWell
-  absent-slot k (sl.Full o pk y) = absent-node pk k y
-
   -- ---- 8
 
   put-into : (i : ℕ) (k : Key) (x : Value) → wellValue x ≡ true → ValueFits x → i < count c → (z : Slot) → slotIn c i ≡ z → Keeps st c (putInto i k x st c z)
@@ -512,14 +487,14 @@ brings Close w f = tt
 
 module _ (st : State) (c : List ℕ) (w : wellState st ≡ true) (s : WellSlots c) (b : Bytes c) where
   pub entry-keeps : (e : Entry) → Brings e → Keeps st c (entryStep e st c)
-  unfolding entryStep answers.get answers.absent answers.put epochs.advance epochs.close
+  unfolding entryStep answers.put epochs.advance epochs.close
   entry-keeps (AddTree i p k x) a = add-tree st c w s b i p k x a
   entry-keeps (AddDeferred i e t k x) a = add-deferred st c w s b i e t k x a
   entry-keeps (EvictTree i p) a = evict-by st c w s b false i p
   entry-keeps (EvictDeferred i) a = evict-deferred st c w s b i
   entry-keeps (EvictTreeDeferred i p) a = evict-by st c w s b true i p
-  entry-keeps (Get i k x) a = by st c w s b (leb (count c) i) (λ _. nay st c w s b noSlot) (λ _. get-slot st c w s b k x (slotIn c i))
-  entry-keeps (Absent p k) a = by st c w s b (leb (count c) p) (λ _. nay st c w s b noSlot) (λ _. absent-slot st c w s b k (slotIn c p))
+  entry-keeps (Get i k x) a = nay st c w s b (answers.get i k x c)
+  entry-keeps (Absent p k) a = nay st c w s b (answers.absent p k c)
   entry-keeps (Put i k x) a =
       by st c w s b (leb (count c) i) (λ _. nay st c w s b noSlot)
       (λ h. put-into st c w s b i k x (a .0) (a .1) (leb-false (count c) i h) (slotIn c i) refl)

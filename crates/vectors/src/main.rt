@@ -1,5 +1,6 @@
 // Runs the digest on FIPS 180-4's examples and on messages whose lengths lie around every edge of the padding and of the
-// public call. What it must write is in the file stdout, which the second program writes too.
+// public call. What it must write is in the file stdout, which the second program writes too. proofs/ has the standards' worked
+// examples, computed from the definitions.
 ghost use mathlib.Core.Path.{_≡_};
 ghost use lib.ListN.{length};
 use words::wide;

@@ -5,12 +5,9 @@ use borrow.Author.Needs.{needs}
 use Rattle.answers.proofs.absent.Statement.{statement}
 use Rattle.answers.proofs.absent.Tie as tie
 
-gives-requires : tie.Need-gives-requires
-gives-requires c κs = search needs
-
 returns : tie.Need-returns
 unfolding absent
-returns c = rw (le-leb _ _ (c .before .if1 .taken), c .gives .ensures)
+returns c = rw (le-leb _ _ (c .if1 .taken))
 
 slot-of-requires : tie.Need-slot-of-requires
 slot-of-requires c κs = search needs
@@ -18,14 +15,8 @@ slot-of-requires c κs = search needs
 enum-told : tie.Need-enum-told
 enum-told c = search needs
 
-gives-requires-2 : tie.Need-gives-requires-2
-gives-requires-2 c κs = search needs
-
 enum-told-2 : tie.Need-enum-told-2
 enum-told-2 c = search needs
-
-gives-requires-3 : tie.Need-gives-requires-3
-gives-requires-3 c κs = search needs
 
 enum-known-pk : tie.Need-enum-known-pk
 enum-known-pk c = search needs
@@ -35,27 +26,24 @@ absent-node-requires c κs = search needs
 
 returns-2 : tie.Need-returns-2
 unfolding absent
-returns-2 c = rw (lt-leb _ _ (c .before .before .before .before .if1 .left), sym (c .before .before .before .slot-of .ensures) ∙ c .before .enum-told .given .1, c .gives2 .ensures)
+returns-2 c = rw (lt-leb _ _ (c .before .before .before .if1 .left), sym (c .before .before .slot-of .ensures) ∙ c .enum-told .given .1)
 
 returns-3 : tie.Need-returns-3
 unfolding absent
-returns-3 c = rw (lt-leb _ _ (c .before .before .before .before .if1 .left), sym (c .before .before .before .slot-of .ensures) ∙ c .before .enum-told2 .given .1, c .gives3 .ensures)
+returns-3 c = rw (lt-leb _ _ (c .before .before .before .if1 .left), sym (c .before .before .slot-of .ensures) ∙ c .enum-told2 .given .1)
 
 returns-4 : tie.Need-returns-4
 unfolding absent
-returns-4 c = rw (lt-leb _ _ (c .before .before .before .before .before .if1 .left), sym (c .before .before .before .before .slot-of .ensures) ∙ c .before .before .pk .given .1) (c .absent-node .ensures)
+returns-4 c = rw (lt-leb _ _ (c .before .before .before .before .before .if1 .left), sym (c .before .before .before .before .slot-of .ensures) ∙ c .before .before .pk .given .1, c .absent-node .ensures)
 
 pub absent-spec : {M : Type 1} → statement M
 absent-spec =
     tie.close
     (tie.spec
-    gives-requires
     returns
     slot-of-requires
     enum-told
-    gives-requires-2
     enum-told-2
-    gives-requires-3
     enum-known-pk
     absent-node-requires
     returns-2

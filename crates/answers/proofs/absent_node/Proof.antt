@@ -6,14 +6,8 @@ use Rattle.answers.proofs.absent_node.Tie as tie
 enum-told : tie.Need-enum-told
 enum-told c = search needs
 
-gives-requires : tie.Need-gives-requires
-gives-requires c κs = search needs
-
 enum-told-2 : tie.Need-enum-told-2
 enum-told-2 c = search needs
-
-gives-requires-2 : tie.Need-gives-requires-2
-gives-requires-2 c κs = search needs
 
 enum-known-pv : tie.Need-enum-known-pv
 enum-known-pv c = search needs
@@ -31,35 +25,29 @@ absent-side-requires : tie.Need-absent-side-requires
 absent-side-requires c κs = search needs
 
 returns : tie.Need-returns
-returns c = simp (sym (c .before .side-of .ensures), sym (c .before .before .toward .ensures), sym (c .before .before .before .before .above .ensures) ∙ c .before .before .before .if1 .taken, c .before .before .before .before .before .before .pv .given .1) (c .absent-side .ensures)
-
-gives-requires-3 : tie.Need-gives-requires-3
-gives-requires-3 c κs = search needs
+returns c = rw (c .before .before .before .before .before .before .pv .given .1, sym (c .before .before .before .before .above .ensures) ∙ c .before .before .before .if1 .taken, c .absent-side .ensures, c .before .side-of .ensures, c .before .before .toward .ensures)
 
 returns-2 : tie.Need-returns-2
-returns-2 c = simp (c .gives .ensures, c .before .enum-told .given .1)
+returns-2 c = search needs
 
 returns-3 : tie.Need-returns-3
-returns-3 c = simp (c .gives2 .ensures, c .before .enum-told2 .given .1)
+returns-3 c = search needs
 
 returns-4 : tie.Need-returns-4
-returns-4 c = simp (c .gives3 .ensures, sym (c .before .before .above .ensures) ∙ c .before .if1 .left, c .before .before .before .before .pv .given .1)
+returns-4 c = rw (c .before .before .before .pv .given .1, sym (c .before .above .ensures) ∙ c .if1 .left)
 
 pub absent-node-spec : {M : Type 1} → statement M
 absent-node-spec =
     tie.close
     (tie.spec
     enum-told
-    gives-requires
     enum-told-2
-    gives-requires-2
     enum-known-pv
     above-requires
     toward-requires
     side-of-requires
     absent-side-requires
     returns
-    gives-requires-3
     returns-2
     returns-3
     returns-4)

@@ -39,11 +39,17 @@ enum-known-e-6 c = search needs
 get-requires : tie.Need-get-requires
 get-requires c κs = search needs
 
+gives-requires : tie.Need-gives-requires
+gives-requires c κs = search needs
+
 enum-known-e-7 : tie.Need-enum-known-e-7
 enum-known-e-7 c = search needs
 
 absent-requires : tie.Need-absent-requires
 absent-requires c κs = search needs
+
+gives-requires-2 : tie.Need-gives-requires-2
+gives-requires-2 c κs = search needs
 
 enum-known-e-8 : tie.Need-enum-known-e-8
 enum-known-e-8 c = search needs
@@ -103,14 +109,14 @@ same-length-6 c = search needs
 
 returns-6 : tie.Need-returns-6
 unfolding entryStep
-returns-6 c = rw (c .before .before .before .e6 .given .1) (c .get .ensures)
+returns-6 c = rw (c .before .before .before .before .e6 .given .1, c .gives .ensures, c .before .get .ensures)
 
 same-length-7 : tie.Need-same-length-7
 same-length-7 c = search needs
 
 returns-7 : tie.Need-returns-7
 unfolding entryStep
-returns-7 c = rw (c .before .before .before .e7 .given .1) (c .absent .ensures)
+returns-7 c = rw (c .before .before .before .before .e7 .given .1, c .gives2 .ensures, c .before .absent .ensures)
 
 same-length-8 : tie.Need-same-length-8
 same-length-8 c = search needs
@@ -143,8 +149,10 @@ apply-spec =
     evict-by-requires-2
     enum-known-e-6
     get-requires
+    gives-requires
     enum-known-e-7
     absent-requires
+    gives-requires-2
     enum-known-e-8
     put-requires
     enum-told

@@ -1,0 +1,2 @@
+-- Two histories, worked.
+pub mod Traps

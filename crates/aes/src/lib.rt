@@ -1,6 +1,7 @@
 // AES-128 (FIPS 197): the key expansion, made once for a key, and the cipher on one block.
 // Rounds go by one table that joins SubBytes and MixColumns (crate sbox), and read the bytes of the expanded key as they need them.
 // Promises upward: the expansion and the cipher are the standard's, for any key, any block and any 176 bytes.
+#![tactic(auto)]
 ghost use Rattle.std.specs.Prelude.{◌≡◌, [], ◌∷◌, ◌+◌, ◌≤◌, ◌<◌, length};
 ghost use Rattle.words.specs.Numbers.{number_at};
 ghost use Rattle.sbox.specs.Field.{sub};
@@ -26,7 +27,7 @@ const ROWS: usize = 4;
 const COLUMNS: usize = 4;
 
 // The state: its four columns as words, row 0 in the highest byte.
-#[derive(Drop)]
+#[derive(Clone, Copy)]
 pub struct Block {
     pub w0: u32,
     pub w1: u32,
@@ -35,7 +36,7 @@ pub struct Block {
 }
 
 // An expanded key: 44 words, high byte first.
-#[derive(Drop)]
+#[derive(Clone, Copy)]
 pub struct Expanded {
     pub bytes: [u8; EXPANDED_BYTES],
 }

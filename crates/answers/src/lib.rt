@@ -1,6 +1,7 @@
 // Entries 6, 7 and 8, once their bodies are read: get, absent and put. Each looks at one slot, and none works a digest or a tag.
 // Promises upward: verdict, state and every byte of the cache are the rules', for any state and any lent cache; of a get and an absence
 // nothing comes but the verdict.
+#![tactic(auto)]
 ghost use Rattle.std.specs.Prelude.{◌≡◌};
 ghost use Rattle.rules.specs.Outcomes.{outcome};
 ghost use Rattle.rules.specs.Answers.{get, absent_side, absent_node, absent, put};

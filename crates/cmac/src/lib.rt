@@ -1,20 +1,21 @@
 // AES-CMAC (RFC 4493): the tag of a message, and sums of tags.
 // The tag call is public and refuses long messages; `mac` serves the crates above on lent buffers.
 // Promises upward: the tag is the standard's for a message of any length, and sums of tags are their xor.
+#![tactic(auto)]
 ghost use Rattle.std.specs.Prelude.{◌≡◌};
 ghost use Rattle.aes.specs.Aes.{block_bytes};
 ghost use Rattle.cmac.specs.Cmac.{cmac};
 ghost use Rattle.cmac.specs.Tags.{tag_words, tag_xor, tag_eq, tag_with, tag_of};
 
 // A tag, or a sum of tags: sixteen bytes as two words, high byte first.
-#[derive(Drop)]
+#[derive(Clone, Copy)]
 pub struct Tag {
     pub t0: u64,
     pub t1: u64,
 }
 
 // The answer of a tag call: 0 and the tag, or 30 and sixteen zero bytes.
-#[derive(Drop)]
+#[derive(Clone, Copy)]
 pub struct TagAnswer {
     pub verdict: u32,
     pub bytes: [u8; aes::BLOCK_BYTES],

@@ -1,6 +1,6 @@
 -- Laws of the definitions: one more word of a schedule, some more rounds. Assumes nothing.
 use Rattle.std.proofs.Common.{◌≡◌, ℕ, zero, suc, ◌+◌, ◌-◌, ◌*◌, ◌%◌, ◌<◌, ◌≤◌, min, Bool, true, false, leb, List, [], ◌∷◌, ◌++◌, length, get_or, take, set, sym, refl, ap, ◌∙◌, ap₂, add-zero, add_assoc, add-suc, add-one, arith, length-append, length-set, get_or-take, take-suc-set, leb-false, leb-true}
-use lib.ListN.{get_or_append}
+use lib.ListN.{get_or-append}
 use borrow.Author.Tests.{lt-leb}
 use Rattle.words.specs.Choice.{pick}
 use Rattle.words.specs.Numbers.{number_at}
@@ -62,7 +62,7 @@ unfolding schedule
 schedule_keeps m n zero j h = rw add-zero
 schedule_keeps m n (suc d) j h =
     schedule_keeps m n d j h
-    ∙ sym (get_or_append (schedule m (n + d)) (next (schedule m (n + d)) (n + d) ∷ []) 0 j (rw schedule_length (omega arith)))
+    ∙ sym (get_or-append (schedule m (n + d)) (next (schedule m (n + d)) (n + d) ∷ []) 0 j (rw schedule_length (omega arith)))
     ∙ ap (λ (x : ℕ). get_or (schedule m x) j 0) (sym (add-suc n d))
 
 -- the words that a turn of the loop has in hand are those of the whole schedule

@@ -4,7 +4,7 @@ use mathlib.Core.Path.{◌≡◌, refl, ap, sym, ◌∙◌}
 use mathlib.Core.List.{List, [], ◌++◌}
 use native.Mathlib.Omega.{arith}
 use lib.Dec.{ltb}
-use lib.ListN.{get_or, length, take, drop, length-append, length-take, length-drop, take-append-drop, get_or_append}
+use lib.ListN.{get_or, length, take, drop, length-append, length-take, length-drop, take-append-drop, get_or-append}
 use lib.Seq.{take-append-le, drop-append-le, get_or-take}
 use borrow.Author.Tests.{lt-ltb, le-ltb, ltb-false}
 use Rattle.words.specs.Numbers.{number_at}
@@ -93,7 +93,7 @@ module _ (log r : List ℕ) (t n : ℕ) (h : HeadThere log t n) where
   head_front =
       record {
         whole = simp length-append (omega (arith, h.whole));
-        tag = get_or_append log r 0 0 (omega (arith, h.whole)) ∙ h.tag;
+        tag = get_or-append log r 0 0 (omega (arith, h.whole)) ∙ h.tag;
         len = number_front 2 log r 1 (omega (arith, h.whole)) ∙ h.len;
       }
 

@@ -1,5 +1,6 @@
 // The ten entries: their forms, and a reader over a lent log.
 // Promises upward: 3 or 2 or the entry with its whole length, and the body as a part of the log itself.
+#![tactic(auto)]
 ghost use Rattle.std.specs.Prelude.{◌≡◌, ◌+◌, ◌≤◌, ◌<◌, length};
 ghost use Rattle.words.specs.Choice.{pick};
 ghost use Rattle.words.specs.Numbers.{number_at};
@@ -63,7 +64,7 @@ pub const DATA_KEY: usize = 2;
 pub const DATA_VALUE: usize = 34;
 
 // s is the record's slot, p its ancestor's.
-#[derive(Drop)]
+#[derive(Clone, Copy)]
 pub enum Entry {
     AddTree {
         s: u16,
@@ -108,21 +109,21 @@ pub enum Entry {
 }
 
 // What a body is read as.
-#[derive(Drop)]
+#[derive(Clone, Copy)]
 pub enum EntryRead {
     Good(Entry),
     Bad,
 }
 
 // An entry's head: its tag and its body's length, where the body is there.
-#[derive(Drop)]
+#[derive(Clone, Copy)]
 pub enum Head {
     Cut,
     Whole { tag: u8, len: usize },
 }
 
 // What the reader answers: 3, 2 with the bytes used, or the entry with the bytes used.
-#[derive(Drop)]
+#[derive(Clone, Copy)]
 pub enum Reading {
     Short,
     Malformed { used: usize },

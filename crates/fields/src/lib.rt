@@ -1,5 +1,6 @@
 // An entry as fields of a fixed form, for callers outside: five numbers, the bytes of a key, and those of a value.
 // Promises upward: every entry has its fields, fields that are no entry are told from those that are, and an entry is read back from its own.
+#![tactic(auto)]
 ghost use Rattle.std.specs.Prelude.{◌≡◌};
 ghost use Rattle.key.specs.Keys.{key_bytes};
 ghost use Rattle.fields.specs.Forms.{undated, fields_of, numbers_of, value_field, entry_with, entry_from};
@@ -28,7 +29,7 @@ const TAG_LIMIT: u64 = 256;
 const SLOT_LIMIT: u64 = 65536;
 
 // What the ten entries have between them. An entry has 0, the root key or the value none in the place of what it does not have.
-#[derive(Drop)]
+#[derive(Clone, Copy)]
 pub struct Fields {
     pub tag: u8,
     pub s: u16,

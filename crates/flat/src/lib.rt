@@ -1,5 +1,6 @@
 // The state as 129 bytes of a fixed layout, for callers outside.
 // Promises upward: bytes that are no state are told from those that are, and a state is written in one way.
+#![tactic(auto)]
 ghost use Rattle.std.specs.Prelude.{◌≡◌, ◌+◌, ◌≤◌, length};
 ghost use Rattle.words.specs.Splices.{splice};
 ghost use Rattle.hash.specs.Hashes.{set_bytes};
@@ -27,13 +28,13 @@ const OLD_TALLY: usize = 81;
 const TALLY_BYTES: usize = 48;
 
 // What reading an old epoch or a state finds.
-#[derive(Drop)]
+#[derive(Clone, Copy)]
 pub enum OldRead {
     Good(Old),
     Bad,
 }
 
-#[derive(Drop)]
+#[derive(Clone, Copy)]
 pub enum StateRead {
     Good(State),
     Bad,

@@ -1,5 +1,6 @@
 // The digest of a value and the tag of a message, each worked from bytes in a buffer of its own; and the set key.
 // Promises upward: they are the standards' over the forms' bytes, and nothing above looks inside.
+#![tactic(auto)]
 ghost use Rattle.std.specs.Prelude.{◌≡◌};
 ghost use Rattle.aes.specs.Aes.{expansion};
 ghost use Rattle.cmac.specs.Cmac.{cmac};
@@ -13,7 +14,7 @@ use value::{Digest, Value};
 use words::{put_word, word_at};
 
 // The set key: 16 bytes as two words.
-#[derive(Drop)]
+#[derive(Clone, Copy)]
 pub struct SetKey {
     pub k0: u64,
     pub k1: u64,

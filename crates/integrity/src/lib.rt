@@ -2,3 +2,4 @@
 // bytes to it (proofs/, the last link in proofs/Demand3).
 // Promises upward: for every set key, number of slots and list of inputs, the statement of specs/Statement holds of the rules' step; for every
 // log that of specs/Logs holds of the rules' run (proofs/RunOver).
+#![tactic(auto)]

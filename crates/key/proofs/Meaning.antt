@@ -7,7 +7,7 @@ use mathlib.Core.Bool.{Bool, true, false}
 use native.Mathlib.Nat.{div-eq_of_lt, mod-lt, zero-add, sub-zero}
 use native.Mathlib.Decide.{dec_lt, dec_le}
 use native.Mathlib.Omega.{arith}
-use lib.ListN.{length, get_or, take, drop, length-append, get_or_append}
+use lib.ListN.{length, get_or, take, drop, length-append, get_or-append}
 use lib.Seq.{split_at, take-append-le, take_all, get_or_at}
 use lib.Pow.{shr-shr, split}
 use lib.Dec.{eqb, ltb, leb, lit<}
@@ -141,7 +141,7 @@ first_at : (n : ℕ) (k : Key) (i : ℕ) → i < n → get_or (first_bits n k) i
 unfolding first_bits
 first_at zero k i h = absurd (omega arith)
 first_at (suc n) k i h = elim (dec_lt i n) [
-  | yes l ↦ get_or_append (first_bits n k) (bit_at k n ∷ []) 0 i (rw (first_length n k) l) ∙ first_at n k i l
+  | yes l ↦ get_or-append (first_bits n k) (bit_at k n ∷ []) 0 i (rw (first_length n k) l) ∙ first_at n k i l
   | no l ↦ let e : i ≡ n = omega arith in rw e (get_or_at (first_bits n k) (bit_at k n) [] 0 n (first_length n k))
 ]
 
@@ -239,7 +239,7 @@ module _ (a b : Key) (x : ℕ) (f : ProperPrefix (bits a) (bits b) x) where
   prefix_bits : SameBits a.len a b
   unfolding bits SameBits
   prefix_bits i l =
-      sym (first_at a.len a i l) ∙ sym (get_or_append (bits a) (x ∷ f.rest) 0 i (rw (bits_length a) l))
+      sym (first_at a.len a i l) ∙ sym (get_or-append (bits a) (x ∷ f.rest) 0 i (rw (bits_length a) l))
       ∙ ap (λ (s : List ℕ). get_or s i 0) (sym f.joined) ∙ first_at b.len b i (omega (arith, longer))
 
   -- the bit after the prefix is the longer key's bit there

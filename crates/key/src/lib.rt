@@ -1,5 +1,7 @@
 // Keys: strings of 0 to 256 bits, as 34 bytes and as words, with the tests that the entries make.
 // Promises upward: what is written is read back, every bit past the length is zero, `above` is proper prefix, `toward` the next bit.
+#![tactic(auto)]
+
 ghost use Rattle.std.specs.Prelude.{◌≡◌, ◌+◌, ◌-◌, ◌%◌, ◌^◌, ◌≤◌, ◌<◌, length};
 ghost use Rattle.words.specs.Splices.{splice};
 ghost use Rattle.key.specs.Keys.{key_at, key_bytes, data_at, data_bytes, key_eq, above, toward, bit_at, well_key, root_key, data_key, is_data, clean, same_top};
@@ -20,7 +22,7 @@ const TWO_WORDS: u64 = 128;
 const THREE_WORDS: u64 = 192;
 
 // The length in bits, 0 to 256, and the bits as four words, the first bit the top bit of w0.
-#[derive(Drop)]
+#[derive(Clone, Copy)]
 pub struct Key {
     pub len: u16,
     pub w0: u64,
@@ -30,7 +32,7 @@ pub struct Key {
 }
 
 // What reading a key finds.
-#[derive(Drop)]
+#[derive(Clone, Copy)]
 pub enum KeyRead {
     Good(Key),
     Bad,

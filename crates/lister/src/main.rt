@@ -1,6 +1,7 @@
 // The program: the set key from `set.key`, the log from standard input, its listing to standard output (document 01, "The program and
 // its listing").
 // Only this reads and writes; that what it does is safe and ends is proved, and the text that it writes is the listing's own promise.
+#![tactic(auto)]
 ghost use Rattle.std.specs.Prelude.{◌≡◌, length};
 
 use libc::{STDIN_FILENO, STDOUT_FILENO};

@@ -1,5 +1,6 @@
 // Epochs, times and the deferred message with its bytes, 51 to 187 of them.
 // Promises upward: the bytes determine epoch, time, key and value.
+#![tactic(auto)]
 ghost use Rattle.std.specs.Prelude.{◌≡◌, ◌+◌, ◌≤◌, length};
 ghost use Rattle.words.specs.Splices.{splice};
 ghost use Rattle.message.specs.Messages.{message_bytes};
@@ -19,13 +20,13 @@ const KEY_AT: usize = 16;
 const VALUE_AT: usize = 50;
 
 // Epochs and clock times are both counts; an epoch is never accepted where a time is expected.
-#[derive(Drop)]
+#[derive(Clone, Copy)]
 pub struct Epoch(pub u64);
 
-#[derive(Drop)]
+#[derive(Clone, Copy)]
 pub struct Time(pub u64);
 
-#[derive(Drop)]
+#[derive(Clone, Copy)]
 pub struct Message {
     pub epoch: Epoch,
     pub time: Time,

@@ -2,6 +2,7 @@
 // the plain form, which has log and place apart.
 // Promises upward: the log from the place on, the entry there, its body as a part of the log itself, and the reader behind it, for any
 // log and any place.
+#![tactic(auto)]
 ghost use Rattle.std.specs.Prelude.{◌≡◌, ◌≤◌, length, drop};
 ghost use Rattle.entry.specs.Entries.{read_entry, read_at, reading_used};
 ghost use Rattle.reader.specs.Places.{body_at, next_at, placed};

@@ -9,7 +9,7 @@ use native.Mathlib.Omega.{arith}
 use lib.Arith.{lt_of_le-ne, digits_lt}
 use lib.Bits.{bit_xor, xor_lt, xor_zero_r}
 use lib.Dec.{lit<}
-use lib.ListN.{length, get_or, length-append, get_or_append}
+use lib.ListN.{length, get_or, length-append, get_or-append}
 use lib.Seq.{get_or_at}
 use Rattle.sbox.specs.Field.{xtime, three, bit, affine_bits, affine, inverse, values_of, sbox, sub}
 use Rattle.sbox.specs.Columns.{spread}
@@ -30,7 +30,7 @@ values_at f (suc n) i h =
     elim (ℕ_discrete i n) [
       | yes e ↦ ap (λ (k : ℕ). get_or (values_of f n ++ f n ∷ []) k 0) e ∙ get_or_at (values_of f n) (f n) [] 0 n (values_length f n) ∙ ap f (sym e)
       | no d ↦
-          get_or_append (values_of f n) (f n ∷ []) 0 i (subst (λ (k : ℕ). i < k) (sym (values_length f n)) (lt_of_le-ne (omega arith) d)) ∙ values_at f n i (lt_of_le-ne (omega arith) d)
+          get_or-append (values_of f n) (f n ∷ []) 0 i (subst (λ (k : ℕ). i < k) (sym (values_length f n)) (lt_of_le-ne (omega arith) d)) ∙ values_at f n i (lt_of_le-ne (omega arith) d)
     ]
 
 one_lt : (x m i : ℕ) → x < m → get_or (x ∷ []) i 0 < m

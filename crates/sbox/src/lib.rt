@@ -4,6 +4,8 @@
 // more, and so turns it not at all. Each function is called from one place, in a loop that the compiler unrolls: so the look-ups
 // stand in the loop and not behind calls.
 // Promises upward: each entry is the standard's, for any byte.
+#![tactic(auto)]
+
 ghost use Rattle.std.specs.Prelude.{◌≡◌};
 ghost use Rattle.sbox.specs.Field.{sub};
 ghost use Rattle.sbox.specs.Columns.{spread};

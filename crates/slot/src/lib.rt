@@ -1,5 +1,6 @@
 // A slot of the cache: 192 bytes, read, and written as a lent part of the cache.
 // Promises upward: a slot that is written is read back, and no byte outside the slot is touched.
+#![tactic(auto)]
 ghost use Rattle.std.specs.Prelude.{◌≡◌, ◌+◌, ◌*◌, ◌-◌, ◌≤◌, ◌<◌, length, drop};
 ghost use Rattle.words.specs.Numbers.{zeros};
 ghost use Rattle.words.specs.Splices.{splice, part};
@@ -28,7 +29,7 @@ const SLOT_VALUE: usize = 35;
 const WORD_BYTES: usize = 8;
 
 // A slot: free, or a record and where it came from (1 the tree, 2 deferred), or bytes that are no slot.
-#[derive(Drop)]
+#[derive(Clone, Copy)]
 pub enum Slot {
     Free,
     Full { origin: u8, key: Key, value: Value },

@@ -1,5 +1,6 @@
 // The trusted state and its changes, its part of well-formedness, and opening.
 // Promises upward: each change is the definition's, and an opened state with its cache is well formed.
+#![tactic(auto)]
 ghost use Rattle.std.specs.Prelude.{◌≡◌, ◌+◌, ◌*◌, ◌-◌, ◌≤◌, ◌<◌, leb};
 ghost use Rattle.state.specs.States.{epoch_limit, count_limit, clock_limit, well_tally, well_old, well_state, no_tally, tally_add, tally_evict, added_current, added_old, evicted_state, evict_message, advanced_state, closed_state, fresh_state, zero_state, opening, open_def, settled};
 
@@ -19,7 +20,7 @@ pub const COUNT_LIMIT: u64 = 1000000;
 const FIRST_EPOCH: u64 = 1;
 
 // An epoch's counts and sums.
-#[derive(Drop)]
+#[derive(Clone, Copy)]
 pub struct Tally {
     pub adds: u64,
     pub evicts: u64,
@@ -28,14 +29,14 @@ pub struct Tally {
 }
 
 // The old epoch, if one is open: closed, there are no counts and sums of it at all.
-#[derive(Drop)]
+#[derive(Clone, Copy)]
 pub enum Old {
     Closed,
     Open(Tally),
 }
 
 // The set key, the clock, the current epoch with its tally, and the old epoch, always the current one less 1.
-#[derive(Drop)]
+#[derive(Clone, Copy)]
 pub struct State {
     pub set: SetKey,
     pub clock: Time,
@@ -45,7 +46,7 @@ pub struct State {
 }
 
 // What opening answers: 0 and a fresh state, or 28 and a state of zeros.
-#[derive(Drop)]
+#[derive(Clone, Copy)]
 pub struct Opened {
     pub verdict: u32,
     pub state: State,

@@ -1,5 +1,6 @@
 // Term keys, and whether a sealed entry has a given fingerprint. All calls are public and total.
 // Promises upward: the key is the SHA-256 of what `hashed` says, and the answer yes is the equality of digest and fingerprint.
+#![tactic(auto)]
 ghost use Rattle.std.specs.Prelude.{◌≡◌, ◌+◌, ◌≤◌, length, leb};
 ghost use Rattle.words.specs.Choice.{both};
 ghost use Rattle.sha256.specs.Sha256.{sha256};
@@ -16,7 +17,7 @@ const TERM_BYTES: usize = 255;
 const HASHED_BYTES: usize = 263;
 
 // What the fingerprint test answers: 0 and yes or no, or 30 and no.
-#[derive(Drop)]
+#[derive(Clone, Copy)]
 pub struct Match {
     pub verdict: u32,
     pub yes: bool,

@@ -1,6 +1,7 @@
 // The static library: the public calls for C and Rust, each a thin cover over a proved call.
 // A slice passes as a pointer and a length, a lent array as a pointer; the verdict is the result.
 // Promises upward: what the calls below promise, every lent byte determined; a refused step leaves state and cache as they were, byte for byte.
+#![tactic(auto)]
 ghost use Rattle.std.specs.Prelude.{◌≡◌, get_or};
 ghost use Rattle.aes.specs.Aes.{expansion, encrypted};
 ghost use Rattle.cmac.specs.Tags.{tag_of, tag_with};

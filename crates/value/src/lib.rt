@@ -1,6 +1,7 @@
 // Values: none, a fingerprint, or a node of two sides, each empty or a link. 1, 33, 3, 70 or 137 bytes.
 // Promises upward: a well-formed value is read back from its bytes, and what is read is written as the same bytes. The tests that the
 // entries make on values are in `tree`.
+#![tactic(auto)]
 ghost use Rattle.std.specs.Prelude.{◌≡◌, ◌+◌, ◌≤◌, length};
 ghost use Rattle.words.specs.Splices.{splice};
 ghost use Rattle.value.specs.Values.{digest_at, digest_bytes, digest_eq, mark_byte, link_at, link_bytes, side_at, side_end, side_bytes, node_at, node_bytes, fingerprint_at, fingerprint_bytes, value_at, value_end, value_bytes, well_side, well_value};
@@ -40,7 +41,7 @@ const UNMARKED: u8 = 0;
 const MARKED: u8 = 1;
 
 // 32 bytes, as four words.
-#[derive(Drop)]
+#[derive(Clone, Copy)]
 pub struct Digest {
     pub d0: u64,
     pub d1: u64,
@@ -49,7 +50,7 @@ pub struct Digest {
 }
 
 // A side of a node is either empty or a link that carries a key, a digest and a deferred mark.
-#[derive(Drop)]
+#[derive(Clone, Copy)]
 pub enum Side {
     Empty,
     Link {
@@ -59,13 +60,13 @@ pub enum Side {
     },
 }
 
-#[derive(Drop)]
+#[derive(Clone, Copy)]
 pub struct Node {
     pub left: Side,
     pub right: Side,
 }
 
-#[derive(Drop)]
+#[derive(Clone, Copy)]
 pub enum Value {
     None,
     Fingerprint(Digest),
@@ -73,13 +74,13 @@ pub enum Value {
 }
 
 // What reading a side or a value finds, and how many bytes it took.
-#[derive(Drop)]
+#[derive(Clone, Copy)]
 pub enum SideRead {
     Good { side: Side, used: usize },
     Bad,
 }
 
-#[derive(Drop)]
+#[derive(Clone, Copy)]
 pub enum ValueRead {
     Good { value: Value, used: usize },
     Bad,

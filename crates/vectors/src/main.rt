@@ -1,6 +1,7 @@
 // Runs the digest on FIPS 180-4's examples and on messages whose lengths lie around every edge of the padding and of the
 // public call. What it must write is in the file stdout, which the second program writes too. proofs/ has the standards' worked
 // examples, computed from the definitions.
+#![tactic(auto)]
 ghost use Rattle.std.specs.Prelude.{◌≡◌, length};
 
 use words::wide;

@@ -1,4 +1,5 @@
 // Document 01, "Verdict numbers": each number by name. specs/Verdicts.antt has them for the definitions.
+#![tactic(auto)]
 
 // accepted
 pub const ACCEPTED: u32 = 0;

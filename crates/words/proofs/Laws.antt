@@ -9,7 +9,7 @@ use native.Mathlib.Decide.{dec_lt}
 use native.Mathlib.Omega.{arith}
 use lib.Dec.{lit<}
 use lib.Arith.{mod-mul, digits_lt, digits_div, digits_mod}
-use lib.ListN.{length, get_or, take, drop, set, length-append, length-take, length-drop, length-replicate, take-append-drop, get_or_append, get_or-eq_default}
+use lib.ListN.{length, get_or, take, drop, set, length-append, length-take, length-drop, length-replicate, take-append-drop, get_or-append, get_or-eq_default}
 use lib.Seq.{take-append_seam, drop-append-add, drop-drop, drop-length, set_split, get_or_at, get_or-append-add, get_or-drop, take-suc, take_at, take_all, length-take-le, take-add, get_or-take}
 use Rattle.words.specs.Choice.{pick, both}
 use Rattle.words.specs.Numbers.{number_at, bytes_of, two_words, four_words, zeros, Bytes}
@@ -27,7 +27,7 @@ pub number_front : (n : ℕ) (s r : List ℕ) (at : ℕ) → at + n ≤ length s
 unfolding number_at
 number_front zero s r at h = refl
 number_front (suc n) s r at h =
-    rw (number_front n s r at (omega arith), get_or_append s r 0 (at + n) (omega arith))
+    rw (number_front n s r at (omega arith), get_or-append s r 0 (at + n) (omega arith))
 
 -- behind s, a place counts from its end
 pub number_behind : (n : ℕ) (s r : List ℕ) (at k : ℕ) → length s ≡ k → number_at n (s ++ r) (k + at) ≡ number_at n r at

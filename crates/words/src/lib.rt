@@ -1,6 +1,8 @@
 // Numbers in lent bytes, high byte first, and the small sums and tests that every layer makes.
 // Promises upward: what is read is the number that the bytes make, and what is written replaces exactly its bytes. The readers and writers
 // ask that the bytes are there: they are inner, for the crates above.
+#![tactic(auto)]
+
 ghost use Rattle.std.specs.Prelude.{◌≡◌, [], ◌∷◌, ◌+◌, ◌*◌, ◌-◌, ◌^◌, ◌≤◌, ◌<◌, length};
 ghost use Rattle.words.specs.Choice.{both, no};
 ghost use Rattle.words.specs.Numbers.{number_at, bytes_of, four_at, four_words};
@@ -19,7 +21,7 @@ const BYTE_VALUES: u64 = 256;
 const QUAD_VALUES: u64 = 4294967296;
 
 // Four words side by side, as a data key and a digest have them.
-#[derive(Drop)]
+#[derive(Clone, Copy)]
 pub struct Four {
     pub first: u64,
     pub second: u64,

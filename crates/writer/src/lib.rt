@@ -1,5 +1,6 @@
 // The writer of entries, to a lent buffer.
 // Promises upward: what is written is read back whatever follows it, and what is read is written as the same bytes.
+#![tactic(auto)]
 ghost use Rattle.std.specs.Prelude.{◌≡◌, ◌++◌, ◌+◌, ◌≤◌, ◌<◌, ◌^◌, length};
 ghost use Rattle.words.specs.Numbers.{bytes_of};
 ghost use Rattle.words.specs.Splices.{splice};
@@ -16,7 +17,7 @@ use verdict::{ACCEPTED, MALFORMED, NO_ROOM};
 use words::{and, put_pair, put_u8, put_word};
 
 // What the writer answers: 0, 2 or 27, and how many bytes it wrote.
-#[derive(Drop)]
+#[derive(Clone, Copy)]
 pub struct Written {
     pub verdict: u32,
     pub used: usize,

@@ -118,7 +118,7 @@ def convert(folder, crate, path, info):
             if not m:
                 return f"{n}: no equation"
             pre, pars, body = m.groups()
-            if body.strip() in ("search rules", "omega arith"):
+            if body.strip() in ("search rules", "omega arith") and "unfolding" not in pre:
                 continue
             unf = [l for l in pre.split("\n") if l.startswith("unfolding")]
             com = [l for l in pre.split("\n") if l.startswith("--")]

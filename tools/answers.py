@@ -73,11 +73,21 @@ def convert(folder, crate, path, info):
         if place[2] and place[2][0]:
             steps.setdefault(alike(place[2][0]), place[2][1])
 
+    arms = {}
+    for arm in info["arms"]:
+        for new, old, path_ in arm[2] if arm else []:
+            if path_:
+                arms.setdefault((alike(old), tuple(path_)), f"{arm[0]}.{new}")
+
     def turn_paths(s):
         def one(m):
             segs = m.group(0).split(".")[1:]
             while segs and segs[0] == "before":
                 segs = segs[1:]
+            for k in range(len(segs), 1, -1):
+                to = arms.get((alike(segs[0]), tuple(segs[1:k])))
+                if to:
+                    return ".".join(["c", to] + segs[k:])
             if segs and alike(segs[0]) in steps:
                 segs[0] = steps[alike(segs[0])]
             elif segs and re.search(r"\D\d+$", segs[0]) and alike(re.sub(r"\d+$", "", segs[0])) in steps:

@@ -2,6 +2,7 @@
 // Rounds go by one table that joins SubBytes and MixColumns (crate sbox), and read the bytes of the expanded key as they need them.
 // Promises upward: the expansion and the cipher are the standard's, for any key, any block and any 176 bytes.
 #![tactic(auto)]
+
 ghost use Rattle.std.specs.Prelude.{◌≡◌, [], ◌∷◌, ◌+◌, ◌≤◌, ◌<◌, length};
 ghost use Rattle.words.specs.Numbers.{number_at};
 ghost use Rattle.sbox.specs.Field.{sub};

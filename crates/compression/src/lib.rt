@@ -1,6 +1,7 @@
 // SHA-256's compression (FIPS 180-4, 6.2.2): one block worked into a hash value, at full speed.
 // Promises upward: the hash value is the standard's.
 #![tactic(auto)]
+
 ghost use Rattle.std.specs.Prelude.{◌≡◌, ◌+◌, ◌-◌, ◌*◌, ◌<◌, ◌≤◌, length, take, slice_index};
 ghost use Rattle.compression.specs.Functions.{ch, maj, sum0, sum1, sigma0, sigma1};
 ghost use Rattle.compression.specs.Compression.{K, round, plus, words, next, compress};

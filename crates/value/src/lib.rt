@@ -2,6 +2,7 @@
 // Promises upward: a well-formed value is read back from its bytes, and what is read is written as the same bytes. The tests that the
 // entries make on values are in `tree`.
 #![tactic(auto)]
+
 ghost use Rattle.std.specs.Prelude.{◌≡◌, ◌+◌, ◌≤◌, length};
 ghost use Rattle.words.specs.Splices.{splice};
 ghost use Rattle.value.specs.Values.{digest_at, digest_bytes, digest_eq, mark_byte, link_at, link_bytes, side_at, side_end, side_bytes, node_at, node_bytes, fingerprint_at, fingerprint_bytes, value_at, value_end, value_bytes, well_side, well_value};

@@ -73,6 +73,7 @@ def convert(folder, crate, path, info):
         if place[2] and place[2][0]:
             steps.setdefault(alike(place[2][0]), place[2][1])
 
+    callee = {alike(p[2][0]): p[3] for p in info["places"] if p[2] and p[3]}
     arms = {}
     for arm in info["arms"]:
         for new, old, path_ in arm[2] if arm else []:
@@ -88,6 +89,10 @@ def convert(folder, crate, path, info):
                 to = arms.get((alike(segs[0]), tuple(segs[1:k])))
                 if to:
                     return ".".join(["c", to] + segs[k:])
+            if len(segs) > 2 and segs[1] == "new" and segs[2].isdigit():
+                names = info["params"].get(callee.get(alike(segs[0]), ""), [])
+                if int(segs[2]) < len(names):
+                    segs[2] = names[int(segs[2])]
             if segs and alike(segs[0]) in steps:
                 segs[0] = steps[alike(segs[0])]
             elif segs and re.search(r"\D\d+$", segs[0]) and alike(re.sub(r"\d+$", "", segs[0])) in steps:

@@ -53,7 +53,7 @@ root_kept =
       key = root_well;
       value = refl;
       key_fits = root_fits;
-      value_fits_lem = (tt, tt);
+      value_fits = (tt, tt);
     }
 
 pub opened_root : (n : ℕ) → slot_in (opened_cache n) 0 ≡ sl.Full tree root_key (v.Node bare_node)

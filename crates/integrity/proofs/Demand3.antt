@@ -38,7 +38,7 @@ module _ (key : List ℕ) (n : ℕ) (ws : List (List ℕ)) where
 
   -- what stood in the run stood in the history
   shown : (p : Whole) (v : Value) → lane.Stood digest_of is_data Tag tags (tag_of (set_key key)) p.whole v → Memᴰ v (stood begin ws)
-  shown p v s = elim (p.in-stood v s) [
+  shown p v s = elim (p.in_stood v s) [
     | inl u ↦ first_stood begin ws (held_stood (set_key key) (fresh_state key) (opened_cache n) _ (opened_stands key n) v u)
     | inr u ↦ u
   ]
@@ -46,7 +46,7 @@ module _ (key : List ℕ) (n : ℕ) (ws : List (List ℕ)) where
   collision : (p : Whole) → moves.Collision digest_of is_data (lane.Stood digest_of is_data Tag tags (tag_of (set_key key)) p.whole) → Collision begin ws
   collision p d =
       let a = shown p d.one d.one_stood in
-      let b = shown p d.two d.two-stood in
+      let b = shown p d.two d.two_stood in
       let x = p.sound d.one a in
       let y = p.sound d.two b in
       record {
@@ -62,7 +62,7 @@ module _ (key : List ℕ) (n : ℕ) (ws : List (List ℕ)) where
   unfolding tags
   cancel p e x =
       let y = rw (p.ads, p.evs) at x.3 in
-      record { epoch = x.0; first = x.1; last = x.2; some_odd = y.0; apart = odd_apart x.0 _ _ (p.ads-well none_well) (p.evs-well none_well); cancel = sym (sum_is (set_key key) _) ∙ y.1 }
+      record { epoch = x.0; first = x.1; last = x.2; some_odd = y.0; apart = odd_apart x.0 _ _ (p.ads_well none_well) (p.evs_well none_well); cancel = sym (sum_is (set_key key) _) ∙ y.1 }
 
   agrees : (p : Whole) (e : ℕ) → AllSay digest_of is_data Tag tags (tag_of (set_key key)) e p.whole → AnswersAgree e begin ws
   agrees p e a before w rest q h = each_agrees e begin (λ k. None) before w rest (subst (λ l. AgreeAll e begin (λ k. None) l) q (p.agree e a).0) h

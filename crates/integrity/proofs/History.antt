@@ -116,33 +116,33 @@ module _ (G : Type 0) (X : Xor G) (τ : Message → G) where
   module _ (clock epoch : ℕ) (old : Bool) (evs ads : List Message) (h : Hist clock epoch old evs ads) where
     pub hist_evict : (m : Message) → m.time.0 ≡ suc clock → m.epoch.0 ≡ epoch → Hist (suc clock) epoch old (m ∷ evs) ads
     hist_evict m t q = record {
-      ev_time = λ n i. elim (Memᴰ.cases_cons i) [ inl e ↦ omega (arith, ap (λ (y : Message). y.time.0) e) | inr k ↦ omega (arith, h.ev-time n k) ];
+      ev_time = λ n i. elim (Memᴰ.cases_cons i) [ inl e ↦ omega (arith, ap (λ (y : Message). y.time.0) e) | inr k ↦ omega (arith, h.ev_time n k) ];
       once = λ n. elim (message_dec n m) [
         | yes e ↦ elim (dec_le 1 (times n evs)) [
-          | yes g ↦ omega (arith, h.ev-time n (mem_count n evs g), ap (λ (y : Message). y.time.0) e)
+          | yes g ↦ omega (arith, h.ev_time n (mem_count n evs g), ap (λ (y : Message). y.time.0) e)
           | no g ↦ omega (arith, count_yes Message message_dec n m evs e)
         ]
         | no d ↦ omega (arith, count_no Message message_dec n m evs d, h.once n)
       ];
       from_one = h.from_one;
-      old_two = h.old-two;
+      old_two = h.old_two;
       no_zero = (h.no_zero.0, of_other 0 m evs (omega (arith, h.from_one)) ∙ h.no_zero.1);
       settled = λ e i j. rw (of_other e m evs (omega arith)) (h.settled e i j);
     }
 
     pub hist_add : (m : Message) → ((e : ℕ) → suc e ≤ epoch → (old ≡ true → suc (suc e) ≤ epoch) → m.epoch.0 ≢ e) → Hist clock epoch old evs (m ∷ ads)
     hist_add m d = record {
-      ev_time = h.ev-time;
+      ev_time = h.ev_time;
       once = h.once;
       from_one = h.from_one;
-      old_two = h.old-two;
-      no_zero = (of_other 0 m ads (d 0 h.from_one h.old-two) ∙ h.no_zero.0, h.no_zero.1);
+      old_two = h.old_two;
+      no_zero = (of_other 0 m ads (d 0 h.from_one h.old_two) ∙ h.no_zero.0, h.no_zero.1);
       settled = λ e i j. rw (of_other e m ads (d e i j)) (h.settled e i j);
     }
 
     pub hist_advance : old ≡ false → Hist clock (suc epoch) true evs ads
     hist_advance o = record {
-      ev_time = h.ev-time;
+      ev_time = h.ev_time;
       once = h.once;
       from_one = omega arith;
       old_two = λ t. omega (arith, h.from_one);
@@ -152,7 +152,7 @@ module _ (G : Type 0) (X : Xor G) (τ : Message → G) where
 
     pub hist_close : (e : ℕ) → suc e ≡ epoch → length (of_epoch e ads) ≡ length (of_epoch e evs) → total (of_epoch e ads) ≡ total (of_epoch e evs) → Hist clock epoch false evs ads
     hist_close e q l s = record {
-      ev_time = h.ev-time;
+      ev_time = h.ev_time;
       once = h.once;
       from_one = h.from_one;
       old_two = λ t. absurd (false≢true t);

@@ -205,7 +205,7 @@ module _ (H : Value → Digest) (is_data : Key → Bool) (G : Type 0) (X : Xor G
     says r (close i o q n s) F = tt
 
     grow : {t : Lane} (r : Run t) (a : Accepts t) → Found r → Found (snoc r a)
-    grow r a c = record { one = c.one; two = c.two; one_stood = inl c.one_stood; two_stood = inl c.two-stood; differ = c.differ; equal = c.equal }
+    grow r a c = record { one = c.one; two = c.two; one_stood = inl c.one_stood; two_stood = inl c.two_stood; differ = c.differ; equal = c.equal }
 
     through : {t : Lane} (r : Run t) → Later t u → Found r ⊎ (AllSay e r × (t.epoch ≤ e → Whole r))
     through start l = inr (tt, λ h. tree_start H is_data root-node)
@@ -240,8 +240,8 @@ module _ (H : Value → Digest) (is_data : Key → Bool) (G : Type 0) (X : Xor G
     where
       past : (o : Bool) → u.old ≡ o → e ≤ settled_by_lem u.epoch o → suc e ≤ u.epoch
       past false q g = omega (arith, (hist r).from_one)
-      past true q g = omega (arith, (hist r).old-two q)
+      past true q g = omega (arith, (hist r).old_two q)
 
       older : (o : Bool) → u.old ≡ o → e ≤ settled_by_lem u.epoch o → u.old ≡ true → suc (suc e) ≤ u.epoch
       older false q g t = absurd (true≢false (sym t ∙ q))
-      older true q g t = omega (arith, (hist r).old-two q)
+      older true q g t = omega (arith, (hist r).old_two q)

@@ -77,7 +77,7 @@ module _ (st : State) (c : List ℕ) (b : Bytes c) (w : well_state st ≡ true) 
             time = omega (arith, well_clock st w);
             key_fits = r.key_fits;
             key = r.key;
-            value_fits = r.value-fits;
+            value_fits = r.value_fits;
             value = r.value;
           })
 

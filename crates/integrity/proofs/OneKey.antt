@@ -36,7 +36,7 @@ module _ (H : Value → Digest) (is_data : Key → Bool) where
       hash = λ d h. G.hash d (f d false h);
       mark = λ x d b e o h. G.mark x d b e o (f d b h);
       out = λ m h. G.out m (g m h);
-      out_mark = λ m d b h i. G.out-mark m d b (g m h) (f d b i);
+      out_mark = λ m d b h i. G.out_mark m d b (g m h) (f d b i);
       out_one = λ m n h i. G.out_one m n (g m h) (g n i);
     }
 
@@ -54,7 +54,7 @@ module _ (H : Value → Digest) (is_data : Key → Bool) where
       hash = λ d h e. absurd (some-ne-none _ e);
       mark = λ y d b e o h. G.mark x d b refl (ap (λ c. c.origin) (some-injective _ _ e) ∙ o) h;
       out = λ m h. absurd (none_out G m h);
-      out_mark = G.out-mark;
+      out_mark = G.out_mark;
       out_one = G.out_one;
     }
 
@@ -96,7 +96,7 @@ module _ (H : Value → Digest) (is_data : Key → Bool) where
       fresh = G.fresh;
       fits = G.fits;
       hash = λ d i e. absurd (some-ne-none _ e);
-      mark = λ y d b e o i. G.out-mark m d b h i;
+      mark = λ y d b e o i. G.out_mark m d b h i;
       out = λ n i. absurd (none n i);
       out_mark = λ n d b i. absurd (none n i);
       out_one = λ n o i. absurd (none n i);
@@ -120,7 +120,7 @@ module _ (H : Value → Digest) (is_data : Key → Bool) where
     }
       where
         none : (n : Message) → O n → ⊥
-        none n i = false≢true (G.out-mark n d false i h)
+        none n i = false≢true (G.out_mark n d false i h)
 
     -- Added for the first time.
     pub good_new : {v : Value} {L L' : Digest → Bool → Type 0} {O : Message → Type 0} → Good k none v false L O

@@ -92,9 +92,9 @@ module _ (key : SetKey) (st : State) (c : List ℕ) (t : Lane) (R : Stands key s
           key = hold.key;
           value = with_good n d (link k (digest_of w) false) hold.value (good_link k (digest_of w) false wk long);
           key_fits = hold.key_fits;
-          value_fits_lem = with_fits n d (link k (digest_of w) false) hold.value-fits (kf, digest_of_fits w);
+          value_fits = with_fits n d (link k (digest_of w) false) hold.value_fits (kf, digest_of_fits w);
         } in
-        let z = wrote_two c p o pk y s hp hs hy tree k w (record { low = omega arith; high = omega arith; key = wk; value = ww; key_fits = kf; value_fits_lem = wf }) in
+        let z = wrote_two c p o pk y s hp hs hy tree k w (record { low = omega arith; high = omega arith; key = wk; value = ww; key_fits = kf; value_fits = wf }) in
         rw e (record {
           set_is_key = R.set_is_key;
           bytes = splice_bytes (put_slot c p o pk y) (slot_bytes tree k w) (s * 192) (splice_bytes c (slot_bytes o pk y) (p * 192) R.bytes (slot_bytes_lem o pk y (omega (arith, hold.high)))) (slot_bytes_lem tree k w (omega arith));
@@ -114,7 +114,7 @@ module _ (key : SetKey) (st : State) (c : List ℕ) (t : Lane) (R : Stands key s
             → pick lm (refuses marked_deferred st c) (pick (digest_eq ld (digest_of x)) (accepts st (put_slot c s tree k x)) (refuses digest_differs st c)) ≡ accepts st' c'
             → Done (AddTree s p k x)
         same q e = nope key st c t R st' c' lm marked_deferred _ refl e λ m e. yep key st c t R st' c' (digest_eq ld (digest_of x)) digest_differs _ refl e λ g e.
-            let z = wrote_one c s tree k x hs (record { low = omega arith; high = omega arith; key = wk; value = wx; key_fits = kf; value_fits_lem = xf }) in
+            let z = wrote_one c s tree k x hs (record { low = omega arith; high = omega arith; key = wk; value = wx; key_fits = kf; value_fits = xf }) in
             done key st c t R st' c' (AddTree s p k x) _ _
             (move (adds_same pk k (toward pk k) (record { origin = o; value = node n }) ld x at_p at_k bel (l ∙ ap (λ y. link y ld lm) (key_eq_true lk k q) ∙ ap (link k ld) m) (sym (digest_eq_true ld (digest_of x) g))) quiet) e
             (record {
@@ -130,7 +130,7 @@ module _ (key : SetKey) (st : State) (c : List ℕ) (t : Lane) (R : Stands key s
             → Done (AddTree s p k x)
         other q e = yep key st c t R st' c' (above k lk) other_branch _ refl e λ b e. yep key st c t R st' c' (is_first x) not_first _ refl e λ f e.
             let wl : well_side (link lk ld lm) ≡ true = subst (λ y. well_side y ≡ true) l (side_good n (toward pk k) hold.value) in
-            let fl : SideFits (link lk ld lm) = subst SideFits l (side_fits n (toward pk k) hold.value-fits) in
+            let fl : SideFits (link lk ld lm) = subst SideFits l (side_fits n (toward pk k) hold.value_fits) in
             let bl : Below k (toward k lk) lk = record { wp = wk; wk = link_good lk ld lm wl; up = b; side = refl } in
             let nd : is_data k ≡ false = ne_eqb k.len 256 (λ h. omega (arith, below_length bl, (well lk (link_good lk ld lm wl)).short)) in
             let xis = first_is (is_data k) x f (unfold fits in fk) ∙ ap (λ y. cond y vnone bare) nd in
@@ -178,7 +178,7 @@ module _ (key : SetKey) (st : State) (c : List ℕ) (t : Lane) (R : Stands key s
     placed : (σ : State) (a : Takes key t) → (onward key a).cache ≡ upd t.cache k (some (record { origin = deferred; value = x })) → σ.set ≡ key
         → Tallies key σ (onward key a).clock (onward key a).epoch (onward key a).old (onward key a).evs (onward key a).ads → Stands key σ (put_slot c s deferred k x) (onward key a)
     placed σ a q kk T =
-        let z = wrote_one c s deferred k x h (record { low = omega arith; high = omega arith; key = wk; value = wx; key_fits = kf; value_fits_lem = xf }) in
+        let z = wrote_one c s deferred k x h (record { low = omega arith; high = omega arith; key = wk; value = wx; key_fits = kf; value_fits = xf }) in
         record {
           set_is_key = kk;
           bytes = splice_bytes c (slot_bytes deferred k x) (s * 192) R.bytes (slot_bytes_lem deferred k x (omega arith));

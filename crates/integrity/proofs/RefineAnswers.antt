@@ -128,7 +128,7 @@ module _ (key : SetKey) (st : State) (c : List ℕ) (t : Lane) (R : Stands key s
       wrote : s < count c → (o : ℕ) (y : Value) → slot_in c s ≡ sl.Full o k y → is_node x ≡ false → accepts st (put_slot c s o k x) ≡ accepts st' c' → Done (Put s k x)
       wrote h o y w n e =
           let old = kept key st c t R st' c' s o k y w in
-          let z = wrote_one c s o k x h (record { low = old.low; high = old.high; key = old.key; value = wx; key_fits = old.key_fits; value_fits_lem = xf }) in
+          let z = wrote_one c s o k x h (record { low = old.low; high = old.high; key = old.key; value = wx; key_fits = old.key_fits; value_fits = xf }) in
           let u = full key st c t R st' c' s h o k y w in
           done key st c t R st' c' (Put s k x) _ _ (move (moves.put k (record { origin = o; value = y }) x (cached key st c t R st' c' s h o k y w) dk (not_node x n)) quiet) e
           (record {

@@ -107,7 +107,7 @@ module _ (key : SetKey) (st : State) (c : List ℕ) (t : Lane) (R : Stands key s
           key = under.key;
           value = with_good n u (link k d m) under.value (good_link k d m left.key (omega arith));
           key_fits = under.key_fits;
-          value_fits_lem = with_fits n u (link k d m) under.value-fits (left.key_fits, fd);
+          value_fits = with_fits n u (link k d m) under.value_fits (left.key_fits, fd);
         } in
         let z = wrote_free c p po pk y s hp hs hy in
         record {
@@ -144,7 +144,7 @@ module _ (key : SetKey) (st : State) (c : List ℕ) (t : Lane) (R : Stands key s
       where
         by : (b : Bool) → value.side_of n (toward pk k) ≡ link k ld lm → evict_as b s p o k x po pk n (toward pk k) st c ld ≡ accepts st' c' → Done (evict_entry b s p)
         by false l e = to_tree_lem ld lm l e
-        by true m e = to_deferred_lem ld lm (subst value.SideFits l (side_fits n (toward pk k) under.value-fits)).1 m e
+        by true m e = to_deferred_lem ld lm (subst value.SideFits l (side_fits n (toward pk k) under.value_fits)).1 m e
 
   pub refine_evict_by : (b : Bool) (s p : ℕ) → evict_by b s p st c ≡ accepts st' c' → Done (evict_entry b s p)
   unfolding evict_by evict_under evict_node evict_link

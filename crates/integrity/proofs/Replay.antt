@@ -124,10 +124,10 @@ module _ (key : SetKey) where
       agree = λ e a. let b = p.agree e a in (((λ h. tt), b.0), b.1);
       evs = p.evs;
       ads = p.ads;
-      in_stood = λ v s. elim (p.in-stood v s) [ inl u ↦ inl u | inr u ↦ inr (mem_right (cache_values (count c) c) _ u) ];
+      in_stood = λ v s. elim (p.in_stood v s) [ inl u ↦ inl u | inr u ↦ inr (mem_right (cache_values (count c) c) _ u) ];
       sound = λ v h. elim (mem_split (cache_values (count c) c) _ h) [ inl g ↦ values_sound (count c) c R.bytes v g | inr g ↦ p.sound v g ];
-      evs_well = p.evs-well;
-      ads_well = p.ads-well;
+      evs_well = p.evs_well;
+      ads_well = p.ads_well;
     }
 
     -- accepted
@@ -143,7 +143,7 @@ module _ (key : SetKey) where
           (((λ h. g.says _ (b.1.0 (subst (λ y. y ≤ e) R.tallies.epochs h))), subst (λ f. AgreeAll e (record { state = σ; cache = d }) f ws) (g.putting _) b.0), b.1.1);
       evs = p.evs ∙ ap (evicts (record { state = σ; cache = d }) ws) g.evicting;
       ads = p.ads ∙ ap (adds (record { state = σ; cache = d }) ws) g.adding;
-      in_stood = λ v s. elim (p.in-stood v s) [
+      in_stood = λ v s. elim (p.in_stood v s) [
         | inl u ↦ elim u [
           | inl y ↦ inl y
           | inr y ↦ inr (mem_right (cache_values (count c) c) _ (elim y [
@@ -157,8 +157,8 @@ module _ (key : SetKey) where
         | inl q ↦ values_sound (count c) c R.bytes v q
         | inr q ↦ elim (mem_split (value_in x) _ q) [ inl i ↦ entry_sound x wx fx v i | inr i ↦ p.sound v i ]
       ];
-      evs_well = λ a. rw (← g.evicting) (p.evs-well (rw g.evicting (join_well (evicted_by (record { state = st; cache = c }) x) t.evs (evicted_well st c R.bytes ok x) a)));
-      ads_well = λ a. rw (← g.adding) (p.ads-well (rw g.adding (join_well (added_by x) t.ads (added_well x wx fx) a)));
+      evs_well = λ a. rw (← g.evicting) (p.evs_well (rw g.evicting (join_well (evicted_by (record { state = st; cache = c }) x) t.evs (evicted_well st c R.bytes ok x) a)));
+      ads_well = λ a. rw (← g.adding) (p.ads_well (rw g.adding (join_well (added_by x) t.ads (added_well x wx fx) a)));
     }
 
     abbrev now : Moment

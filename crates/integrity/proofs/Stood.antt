@@ -90,7 +90,7 @@ values_sound (suc n) c b v h = elim (mem_split (slot_value (slot.slot_at (take 1
     go sl.Bad e g = absurd (Memᴰ.not-nil g)
     go (sl.Full o k x) e g =
         let k = slot_kept (take 192 c) o k x e (part_bytes c 0 192 b) in
-        elim (Memᴰ.cases_cons g) [ inl q ↦ rw q (record { well = k.value; fits = k.value-fits }) | inr u ↦ absurd (Memᴰ.not-nil u) ]
+        elim (Memᴰ.cases_cons g) [ inl q ↦ rw q (record { well = k.value; fits = k.value_fits }) | inr u ↦ absurd (Memᴰ.not-nil u) ]
 
 one_sound : (x v : Value) → Sound x → Memᴰ v (x ∷ []) → Sound v
 one_sound x v s g = elim (Memᴰ.cases_cons g) [ inl q ↦ rw q s | inr u ↦ absurd (Memᴰ.not-nil u) ]

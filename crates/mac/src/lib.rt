@@ -1,6 +1,7 @@
 // AES-CMAC (RFC 4493) over blocks: the subkeys, the chain and the last block.
 // Promises upward: the tag as a block is the standard's for a message of any length.
 #![tactic(auto)]
+
 ghost use Rattle.std.specs.Prelude.{◌≡◌, ◌*◌, ◌≤◌, ◌<◌, length};
 ghost use Rattle.aes.specs.Aes.{key_words};
 ghost use Rattle.mac.specs.Cmac.{zero_block, xor_block, double, key1, whole, chain, padding, last_block, mac_block};

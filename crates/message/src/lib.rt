@@ -1,6 +1,7 @@
 // Epochs, times and the deferred message with its bytes, 51 to 187 of them.
 // Promises upward: the bytes determine epoch, time, key and value.
 #![tactic(auto)]
+
 ghost use Rattle.std.specs.Prelude.{◌≡◌, ◌+◌, ◌≤◌, length};
 ghost use Rattle.words.specs.Splices.{splice};
 ghost use Rattle.message.specs.Messages.{message_bytes};

@@ -74,7 +74,7 @@ pub record Kept (o : ℕ) (k : Key) (x : Value) : Type 0 where
   pub key : well_key k ≡ true
   pub value : well_value x ≡ true
   pub key_fits : KeyFits k
-  pub value_fits_lem : ValueFits x
+  pub value_fits : ValueFits x
 
 module _ (s : List ℕ) (o : ℕ) (k : Key) (x : Value) (e : slot_at s ≡ Full o k x) (b : Bytes s) where
   pub slot_kept : Kept o k x
@@ -87,7 +87,7 @@ module _ (s : List ℕ) (o : ℕ) (k : Key) (x : Value) (e : slot_at s ≡ Full 
         key = key_well s 1 k r.key;
         value = v.well;
         key_fits = key_fits s 1 k r.key b;
-        value_fits_lem = v.fits;
+        value_fits = v.fits;
       }
 
   -- and is written as the same bytes
@@ -124,7 +124,7 @@ module _ (o : ℕ) (k : Key) (x : Value) (kept : Kept o k x) where
   written_value : value_at ((o ∷ []) ++ (key_bytes k ++ (value_bytes x ++ rest))) 35 ≡ vr.Good x (length (value_bytes x))
   written_value =
       ap (λ (l : List ℕ). value_at l 35) (front (value_bytes x ++ rest))
-      ∙ value_back 35 ((o ∷ []) ++ key_bytes k) rest front_length x kept.value-fits kept.value
+      ∙ value_back 35 ((o ∷ []) ++ key_bytes k) rest front_length x kept.value_fits kept.value
 
   written_rest : all_zero (drop (35 + length (value_bytes x)) ((o ∷ []) ++ (key_bytes k ++ (value_bytes x ++ rest)))) ≡ true
   unfolding rest

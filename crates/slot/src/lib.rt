@@ -1,6 +1,7 @@
 // A slot of the cache: 192 bytes, read, and written as a lent part of the cache.
 // Promises upward: a slot that is written is read back, and no byte outside the slot is touched.
 #![tactic(auto)]
+
 ghost use Rattle.std.specs.Prelude.{◌≡◌, ◌+◌, ◌*◌, ◌-◌, ◌≤◌, ◌<◌, length, drop};
 ghost use Rattle.words.specs.Numbers.{zeros};
 ghost use Rattle.words.specs.Splices.{splice, part};

@@ -123,7 +123,7 @@ kept_node o k x n a f =
       key = a.key;
       value = true_both (well_side n.left) (well_side n.right) f.left.form f.right.form;
       key_fits = a.key_fits;
-      value_fits_lem = (f.left.room, f.right.room);
+      value_fits = (f.left.room, f.right.room);
     }
 
 -- ---- the changes of a state leave its set key
@@ -166,10 +166,10 @@ pub record Brought (k : Key) (x : Value) : Type 0 where
   pub key : well_key k ≡ true
   pub value : well_value x ≡ true
   pub key_fits : KeyFits k
-  pub value_fits_lem : ValueFits x
+  pub value_fits : ValueFits x
 
 brought_kept : (o : ℕ) (k : Key) (x : Value) → 1 ≤ o → o ≤ 2 → Brought k x → Kept o k x
-brought_kept o k x l h a = record { low = l; high = h; key = a.key; value = a.value; key_fits = a.key_fits; value_fits_lem = a.value-fits }
+brought_kept o k x l h a = record { low = l; high = h; key = a.key; value = a.value; key_fits = a.key_fits; value_fits = a.value_fits }
 
 module _ (st : State) (c : List ℕ) (w : well_state st ≡ true) (s : WellSlots c) (b : Bytes c) where
   -- a verdict alone, of a refusal or an answer
@@ -184,7 +184,7 @@ module _ (st : State) (c : List ℕ) (w : well_state st ≡ true) (s : WellSlots
   kept_in i o k x e = slot_kept (part c (i * slot_length) slot_length) o k x e (part_bytes c (i * slot_length) slot_length b)
 
   fair_in : (i o : ℕ) (k : Key) (n : Node) → slot_in c i ≡ sl.Full o k (v.Node n) → Fairs n
-  fair_in i o k n e = let a = kept_in i o k (v.Node n) e in node_fair n a.value a.value-fits
+  fair_in i o k n e = let a = kept_in i o k (v.Node n) e in node_fair n a.value a.value_fits
 
   -- a record goes into a free slot
   stored : (σ : State) (i o : ℕ) (k : Key) (x : Value) → Next st σ → i < count c → slot_in c i ≡ sl.Free → held c k ≡ false → Kept o k x → fits k x ≡ true
@@ -424,7 +424,7 @@ module _ (st : State) (c : List ℕ) (w : well_state st ≡ true) (s : WellSlots
       (λ q.
       let u : slot_in c i ≡ sl.Full o k y = e ∙ ap (λ (a : Key). sl.Full o a y) (key_eq_true j k q) in
       let a = kept_in i o k y u in
-      let t : Kept o k x = record { low = a.low; high = a.high; key = a.key; value = g; key_fits = a.key_fits; value_fits_lem = f } in
+      let t : Kept o k x = record { low = a.low; high = a.high; key = a.key; value = g; key_fits = a.key_fits; value_fits = f } in
       record {
         state = w;
         set = refl;
@@ -473,9 +473,9 @@ Brings Close = Unit
 brings : (e : Entry) → well_entry e ≡ true → EntryFits e → Brings e
 unfolding well_entry
 brings (AddTree s p k x) w f =
-    let a = both_true (well_key k) (well_value x) w in record { key = a.0; value = a.1; key_fits = f.1.1.0; value_fits_lem = f.1.1.1 }
+    let a = both_true (well_key k) (well_value x) w in record { key = a.0; value = a.1; key_fits = f.1.1.0; value_fits = f.1.1.1 }
 brings (AddDeferred s e t k x) w f =
-    let a = both_true (well_key k) (well_value x) w in record { key = a.0; value = a.1; key_fits = f.1.1.1.0; value_fits_lem = f.1.1.1.1 }
+    let a = both_true (well_key k) (well_value x) w in record { key = a.0; value = a.1; key_fits = f.1.1.1.0; value_fits = f.1.1.1.1 }
 brings (EvictTree s p) w f = tt
 brings (EvictDeferred s) w f = tt
 brings (EvictTreeDeferred s p) w f = tt

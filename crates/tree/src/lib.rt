@@ -1,6 +1,7 @@
 // The tests that the entries' checks make on values and nodes, and a node with another side.
 // Promises upward: each is its definition of `value`; two values are the same exactly where they are equal.
 #![tactic(auto)]
+
 ghost use Rattle.std.specs.Prelude.{◌≡◌};
 ghost use Rattle.value.specs.Values.{is_node, fits, bare_node, both_empty, is_first, bool_eq, side_eq, value_eq, side_of, with_side};
 

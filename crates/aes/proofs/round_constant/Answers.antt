@@ -48,7 +48,7 @@ returns-in-8 c = ap rcon (sym c.in-8.is)
 pub returns-in_default : goal.returns-in_default
 unfolding power xtime
 returns-in_default c =
-    let h = past c.args.i 9 c.in-0.rest in
+    let h = past c.args.i 9 c.in_default.in_default-own.rest in
     let p = c.requires in
     let e : c.args.i ≡ 9 = nine c.args.i h p in
     rw e

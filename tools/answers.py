@@ -53,12 +53,26 @@ def name_of(block):
     return None
 
 
+def flat(text):
+    """Names for an earlier place, `let e = c.before.before in`, become c: its fields stand in c itself."""
+    out = []
+    for block in re.split(r"\n(?=\S)", text):
+        while True:
+            m = re.search(r"let (\w+) = c(?:\.before)* in\s*", block)
+            if not m:
+                break
+            block = block[: m.start()] + block[m.end() :]
+            block = re.sub(r"(?<![\w.'-])" + m.group(1) + r"(?=\.)", "c", block)
+        out.append(block)
+    return "\n".join(out)
+
+
 def convert(folder, crate, path, info):
     text = open(os.path.join(folder, "Proof.antt"), encoding="utf-8").read()
     if "tie.spec" not in text:
         return "by hand"
     uses, rest = split_uses(text)
-    bs = blocks(rest)
+    bs = blocks(flat(rest))
     spec = next(b for b in bs if "tie.spec" in "\n".join(b))
     args = re.search(r"\(\s*tie\.spec\s+([^()]*)\)|tie\.spec\s*$", "\n".join(spec))
     order = (args.group(1) or "").split() if args and args.group(1) else []

@@ -1,6 +1,7 @@
 // The cache as slots: whether its length and its slots are as said, and whether a key is held.
 // Promises upward: 28 and the cache's part of 1 are decided, and a slot that is written leaves every other as it was.
 #![tactic(auto)]
+
 ghost use Rattle.std.specs.Prelude.{◌≡◌, ◌+◌, ◌*◌, ◌/◌, ◌≤◌, ◌<◌, length};
 ghost use Rattle.slot.specs.Slots.{slot_length, slot_at};
 ghost use Rattle.cache.specs.Caches.{well_length, slot_has, held, well_record, well_at, well_cache};

@@ -2,6 +2,7 @@
 // The tag call is public and refuses long messages; `mac` serves the crates above on lent buffers.
 // Promises upward: the tag is the standard's for a message of any length, and sums of tags are their xor.
 #![tactic(auto)]
+
 ghost use Rattle.std.specs.Prelude.{◌≡◌};
 ghost use Rattle.aes.specs.Aes.{block_bytes};
 ghost use Rattle.cmac.specs.Cmac.{cmac};

@@ -1,6 +1,7 @@
 // The ten entries: their forms, and a reader over a lent log.
 // Promises upward: 3 or 2 or the entry with its whole length, and the body as a part of the log itself.
 #![tactic(auto)]
+
 ghost use Rattle.std.specs.Prelude.{◌≡◌, ◌+◌, ◌≤◌, ◌<◌, length};
 ghost use Rattle.words.specs.Choice.{pick};
 ghost use Rattle.words.specs.Numbers.{number_at};

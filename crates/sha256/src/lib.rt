@@ -1,6 +1,7 @@
 // SHA-256 (FIPS 180-4): the public digest call, and the hash of a lent buffer at full speed for the crates above.
 // Promises upward: every digest equals the standard's, for a message of any length; the public call refuses a long one.
 #![tactic(auto)]
+
 ghost use Rattle.std.specs.Prelude.{◌≡◌, ◌++◌, ◌+◌, ◌-◌, ◌*◌, ◌/◌, ◌%◌, ◌^◌, ◌<◌, length, take};
 ghost use Rattle.words.specs.Numbers.{four_at};
 ghost use Rattle.sha256.specs.Sha256.{K, H0, after, blocks, padding, hash_of, hash_bytes, digest_of};

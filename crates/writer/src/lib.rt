@@ -1,6 +1,7 @@
 // The writer of entries, to a lent buffer.
 // Promises upward: what is written is read back whatever follows it, and what is read is written as the same bytes.
 #![tactic(auto)]
+
 ghost use Rattle.std.specs.Prelude.{◌≡◌, ◌++◌, ◌+◌, ◌≤◌, ◌<◌, ◌^◌, length};
 ghost use Rattle.words.specs.Numbers.{bytes_of};
 ghost use Rattle.words.specs.Splices.{splice};

@@ -1,6 +1,7 @@
 // An entry as fields of a fixed form, for callers outside: five numbers, the bytes of a key, and those of a value.
 // Promises upward: every entry has its fields, fields that are no entry are told from those that are, and an entry is read back from its own.
 #![tactic(auto)]
+
 ghost use Rattle.std.specs.Prelude.{◌≡◌};
 ghost use Rattle.key.specs.Keys.{key_bytes};
 ghost use Rattle.fields.specs.Forms.{undated, fields_of, numbers_of, value_field, entry_with, entry_from};

@@ -1,6 +1,7 @@
 // The digest of a value and the tag of a message, each worked from bytes in a buffer of its own; and the set key.
 // Promises upward: they are the standards' over the forms' bytes, and nothing above looks inside.
 #![tactic(auto)]
+
 ghost use Rattle.std.specs.Prelude.{◌≡◌};
 ghost use Rattle.aes.specs.Aes.{expansion};
 ghost use Rattle.cmac.specs.Cmac.{cmac};

@@ -1,6 +1,7 @@
 // The trusted state and its changes, its part of well-formedness, and opening.
 // Promises upward: each change is the definition's, and an opened state with its cache is well formed.
 #![tactic(auto)]
+
 ghost use Rattle.std.specs.Prelude.{◌≡◌, ◌+◌, ◌*◌, ◌-◌, ◌≤◌, ◌<◌, leb};
 ghost use Rattle.state.specs.States.{epoch_limit, count_limit, clock_limit, well_tally, well_old, well_state, no_tally, tally_add, tally_evict, added_current, added_old, evicted_state, evict_message, advanced_state, closed_state, fresh_state, zero_state, opening, open_def, settled};
 

@@ -1,6 +1,7 @@
 // Term keys, and whether a sealed entry has a given fingerprint. All calls are public and total.
 // Promises upward: the key is the SHA-256 of what `hashed` says, and the answer yes is the equality of digest and fingerprint.
 #![tactic(auto)]
+
 ghost use Rattle.std.specs.Prelude.{◌≡◌, ◌+◌, ◌≤◌, length, leb};
 ghost use Rattle.words.specs.Choice.{both};
 ghost use Rattle.sha256.specs.Sha256.{sha256};

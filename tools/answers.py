@@ -167,7 +167,7 @@ def convert(folder, crate, path, info):
                 got.append(u)
                 continue
             its = [x.strip() for x in m.group(2).split(",")]
-            its = [x for x in its if x.split(" as ")[-1] in words or ("◌" in x and any(op and op in body for op in x.split("◌")))]
+            its = [x for x in its if x.split(" as ")[-1] in words or (x == "[]" and x in body) or ("◌" in x and any(op and op in body for op in x.split("◌")))]
             if its:
                 got.append(m.group(1) + ", ".join(its) + "}" + m.group(3))
         return got

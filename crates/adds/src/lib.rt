@@ -1,6 +1,7 @@
 // Entry 1, once its body is read: add from tree. It scans the slots' keys once (7) and works at most one digest.
 // Promises upward: verdict, state and every byte of the cache are the rules', for any state and any lent cache.
 #![tactic(auto)]
+
 ghost use Rattle.std.specs.Prelude.{◌≡◌, ◌+◌, ◌*◌, ◌≤◌, length};
 ghost use Rattle.slot.specs.Slots.{slot_length};
 ghost use Rattle.rules.specs.Outcomes.{outcome};

@@ -2,6 +2,7 @@
 // Promises upward: verdict, state and every byte of the cache are the rules', for any state and any lent cache; of a get and an absence
 // nothing comes but the verdict.
 #![tactic(auto)]
+
 ghost use Rattle.std.specs.Prelude.{◌≡◌};
 ghost use Rattle.rules.specs.Outcomes.{outcome};
 ghost use Rattle.rules.specs.Answers.{get, absent_side, absent_node, absent, put};

@@ -2,6 +2,7 @@
 // Promises upward: verdict, state and every byte of the cache are the rules', for any lent cache and any state whose clock is below its
 // bound; the run's expanded key is passed in.
 #![tactic(auto)]
+
 ghost use Rattle.std.specs.Prelude.{◌≡◌, ◌+◌, ◌*◌, ◌≤◌, length};
 ghost use Rattle.aes.specs.Aes.{expansion};
 ghost use Rattle.hash.specs.Hashes.{set_bytes};

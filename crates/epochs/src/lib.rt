@@ -1,6 +1,7 @@
 // Entries 9 and 10: advance and close. Neither looks at the cache.
 // Promises upward: verdict and state are the rules', for any state.
 #![tactic(auto)]
+
 ghost use Rattle.std.specs.Prelude.{◌≡◌};
 ghost use Rattle.rules.specs.Epochs.{advance, close};
 

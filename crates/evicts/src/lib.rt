@@ -3,6 +3,7 @@
 // Promises upward: verdict, state and every byte of the cache are the rules', for any lent cache and any state whose clock is below its
 // bound; the run's expanded key is passed in.
 #![tactic(auto)]
+
 ghost use Rattle.std.specs.Prelude.{◌≡◌, true, false, ◌+◌, ◌*◌, ◌≤◌, ◌<◌, length};
 ghost use Rattle.aes.specs.Aes.{expansion};
 ghost use Rattle.value.specs.declared.Side.TheVariants.{Link};

@@ -1,6 +1,7 @@
 // The state as 129 bytes of a fixed layout, for callers outside.
 // Promises upward: bytes that are no state are told from those that are, and a state is written in one way.
 #![tactic(auto)]
+
 ghost use Rattle.std.specs.Prelude.{◌≡◌, ◌+◌, ◌≤◌, length};
 ghost use Rattle.words.specs.Splices.{splice};
 ghost use Rattle.hash.specs.Hashes.{set_bytes};

@@ -1,4 +1,3 @@
--- Places worked through, their laws, and what the walks share.
+-- Places worked through, and their laws.
 pub mod Examples
 pub mod Laws
-pub mod Parted

@@ -3,6 +3,7 @@
 // Promises upward: the log from the place on, the entry there, its body as a part of the log itself, and the reader behind it, for any
 // log and any place.
 #![tactic(auto)]
+
 ghost use Rattle.std.specs.Prelude.{◌≡◌, ◌≤◌, length, drop};
 ghost use Rattle.entry.specs.Entries.{read_entry, read_at, reading_used};
 ghost use Rattle.reader.specs.Places.{body_at, next_at, placed};
@@ -10,7 +11,7 @@ ghost use Rattle.reader.specs.Places.{body_at, next_at, placed};
 use entry::{Head, Reading};
 
 // The log, and a place in it.
-#[derive(Drop)]
+#[derive(Clone, Copy)]
 pub struct Reader<'a> {
     pub log: &'a [u8],
     pub at: usize,

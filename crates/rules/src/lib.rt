@@ -2,6 +2,7 @@
 // reader and the theorem about settled answers share. The declared types are those that the code returns.
 // Promises upward: document 01's examples M1 to M12 follow from the definitions.
 #![tactic(auto)]
+
 ghost use Rattle.std.specs.Prelude.{◌≡◌};
 ghost use Rattle.rules.specs.Outcomes.{gives};
 

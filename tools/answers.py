@@ -79,6 +79,8 @@ def convert(folder, crate, path, info):
     invs = [n for n in order if n.startswith(("invariant-", "decreases-"))]
     order = [n for n in order if n not in invs]
     needs = info["needs"]
+    if len(order) > len(needs):
+        order = [n for n in order if not n.startswith("slice-aggregate")]
     if len(order) != len(needs):
         return f"counts differ: {len(order)} answers, {len(needs)} goals: {order} {[n[0] for n in needs]}"
     new_of = {a: n[1] for a, n in zip(order, needs)}
@@ -123,7 +125,7 @@ def convert(folder, crate, path, info):
         loops[names[0]] = (names[1], pos)
     out_inv, out_ans = [], []
     for b in bs:
-        if b is spec:
+        if b is spec or (name_of(b) or "").startswith("slice-aggregate"):
             continue
         n = name_of(b)
         t = "\n".join(b).strip("\n")

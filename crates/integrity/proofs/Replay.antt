@@ -185,7 +185,7 @@ module _ (key : SetKey) where
 
   pub replay : {t : Lane} (ws : List (List ℕ)) → AllBytes ws → (st : State) (c : List ℕ) → Stands key st c t → (r : Runs t) → Replay r (record { state = st; cache = c }) ws
   unfolding AgreeAll
-  replay {t} [] b st c R r = record {
+  replay {t = t} [] b st c R r = record {
     end = t;
     whole = r;
     stands = R;
@@ -198,5 +198,6 @@ module _ (key : SetKey) where
     evs_well = λ a. a;
     ads_well = λ a. a;
   }
-  replay (w ∷ ws) b st c R r =
-      one_more st c R r w ws b.0 (step_settles st c w) (replay ws b.1 st c R r) (λ x σ d g. replay ws b.1 σ d g.stands (snoc r g.acc))
+  replay {t = t} (w ∷ ws) b st c R r =
+      one_more st c R r w ws b.0 (step_settles st c w) (replay {t = t} ws b.1 st c R r)
+      (λ x σ d g. replay {t = onward key g.acc} ws b.1 σ d g.stands (snoc r g.acc))

@@ -2,6 +2,7 @@
 // Promises upward: what is returned and every byte of the cache are the rules', for any log, any state and any lent cache; it is made on the
 // inner step, with one expanded key for the whole run.
 #![tactic(auto)]
+
 ghost use Rattle.std.specs.Prelude.{◌≡◌, true, ◌≤◌, eqb, drop};
 ghost use Rattle.words.specs.Choice.{pick};
 ghost use Rattle.verdict.specs.Verdicts.{accepted};

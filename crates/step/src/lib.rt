@@ -2,6 +2,7 @@
 // Promises upward: verdict, next state, bytes used and every byte of the cache are the rules', for any log, any state and any lent cache; and
 // for a run, which knows its state and cache to be well formed and has made the expanded key, the same step without deciding that again.
 #![tactic(auto)]
+
 ghost use Rattle.std.specs.Prelude.{◌≡◌, true, ◌≤◌};
 ghost use Rattle.aes.specs.Aes.{expansion};
 ghost use Rattle.hash.specs.Hashes.{set_bytes};

@@ -2,6 +2,7 @@
 // Promises upward: exactly the bytes of the definition, and where they end.
 // Each writer asks that its text fits: all are inner, for the crates above.
 #![tactic(auto)]
+
 ghost use Rattle.std.specs.Prelude.{◌≡◌, ◌+◌, ◌≤◌, ◌<◌, length, drop};
 ghost use Rattle.words.specs.Splices.{splice};
 ghost use Rattle.text.specs.Text.{decimal, field, line_text, slots_text, end_text};

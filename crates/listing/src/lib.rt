@@ -1,6 +1,7 @@
 // The listing of a log with four slots, into a lent buffer.
 // Promises upward: the text of the definition, for any key and any log that the program takes.
 #![tactic(auto)]
+
 ghost use Rattle.std.specs.Prelude.{◌≡◌, true, ◌+◌, ◌≤◌, ◌<◌, length};
 ghost use Rattle.words.specs.Splices.{splice};
 ghost use Rattle.aes.specs.Aes.{expansion};

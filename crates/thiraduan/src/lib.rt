@@ -2,6 +2,7 @@
 // A slice passes as a pointer and a length, a lent array as a pointer; the verdict is the result.
 // Promises upward: what the calls below promise, every lent byte determined; a refused step leaves state and cache as they were, byte for byte.
 #![tactic(auto)]
+
 ghost use Rattle.std.specs.Prelude.{◌≡◌, get_or};
 ghost use Rattle.aes.specs.Aes.{expansion, encrypted};
 ghost use Rattle.cmac.specs.Tags.{tag_of, tag_with};
@@ -31,7 +32,7 @@ fn flag(yes: bool) -> u8
 // The digest of m goes to out: zero bytes with 30.
 #[unsafe(no_mangle)]
 pub extern "C" fn thiraduan_digest(m: &[u8], out: &mut [u8; 32]) -> u32
-    ensures value { result ≡ (digest_of m.now).verdict }
+    ensures verdict { result ≡ (digest_of m.now).verdict }
     ensures out_after { out.new ≡ (digest_of m.now).bytes }
 {
     let a = sha256::digest(m);
@@ -43,7 +44,7 @@ pub extern "C" fn thiraduan_digest(m: &[u8], out: &mut [u8; 32]) -> u32
 // The term key goes to out: zero bytes with 29.
 #[unsafe(no_mangle)]
 pub extern "C" fn thiraduan_term_key(code: &[u8], term: &[u8], out: &mut [u8; 32]) -> u32
-    ensures value { result ≡ (term_key code.now term.now).verdict }
+    ensures verdict { result ≡ (term_key code.now term.now).verdict }
     ensures out_after { out.new ≡ (term_key code.now term.now).bytes }
 {
     let a = term::term_key(code, term);
@@ -55,7 +56,7 @@ pub extern "C" fn thiraduan_term_key(code: &[u8], term: &[u8], out: &mut [u8; 32
 // Whether a sealed entry has the fingerprint, to yes: 0 with 30.
 #[unsafe(no_mangle)]
 pub extern "C" fn thiraduan_fingerprint(sealed: &[u8], fingerprint: &[u8; 32], yes: &mut u8) -> u32
-    ensures value { result ≡ (matches sealed.now fingerprint.now).verdict }
+    ensures verdict { result ≡ (matches sealed.now fingerprint.now).verdict }
     ensures yes_after { yes.new ≡ flag (matches sealed.now fingerprint.now).yes }
 {
     let a = term::has_fingerprint(sealed, fingerprint);
@@ -66,7 +67,7 @@ pub extern "C" fn thiraduan_fingerprint(sealed: &[u8], fingerprint: &[u8; 32], y
 // The tag of m under a set key goes to out: zero bytes with 30.
 #[unsafe(no_mangle)]
 pub extern "C" fn thiraduan_tag(key: &[u8; 16], m: &[u8], out: &mut [u8; 16]) -> u32
-    ensures value { result ≡ (tag_of key.now m.now).verdict }
+    ensures verdict { result ≡ (tag_of key.now m.now).verdict }
     ensures out_after { out.new ≡ (tag_of key.now m.now).bytes }
 {
     let a = cmac::tag_of(key, m);
@@ -88,7 +89,7 @@ pub extern "C" fn thiraduan_expand(key: &[u8; 16], out: &mut [u8; 176])
 // The tag of m under an expanded key goes to out: zero bytes with 30.
 #[unsafe(no_mangle)]
 pub extern "C" fn thiraduan_tag_with(expanded: &[u8; 176], m: &[u8], out: &mut [u8; 16]) -> u32
-    ensures value { result ≡ (tag_with expanded.now m.now).verdict }
+    ensures verdict { result ≡ (tag_with expanded.now m.now).verdict }
     ensures out_after { out.new ≡ (tag_with expanded.now m.now).bytes }
 {
     let a = cmac::tag_under(expanded, m);
@@ -116,7 +117,7 @@ pub extern "C" fn thiraduan_read(
     key: &mut [u8; 34],
     value: &mut [u8; 137],
 ) -> u32
-    ensures value { result ≡ (flat_read log.now numbers.old key.old value.old).verdict }
+    ensures verdict { result ≡ (flat_read log.now numbers.old key.old value.old).verdict }
     ensures used_after { used.new ≡ (flat_read log.now numbers.old key.old value.old).used }
     ensures numbers_after { numbers.new ≡ (flat_read log.now numbers.old key.old value.old).numbers }
     ensures key_after { key.new ≡ (flat_read log.now numbers.old key.old value.old).key }
@@ -154,7 +155,7 @@ pub extern "C" fn thiraduan_write(
     out: &mut [u8],
     used: &mut u64,
 ) -> u32
-    ensures value { result ≡ (flat_write numbers.now key.now value.now out.old).answer.verdict }
+    ensures verdict { result ≡ (flat_write numbers.now key.now value.now out.old).answer.verdict }
     ensures out_after { out.new ≡ (flat_write numbers.now key.now value.now out.old).bytes }
     ensures used_after { used.new ≡ (flat_write numbers.now key.now value.now out.old).answer.used }
 {
@@ -170,7 +171,7 @@ pub extern "C" fn thiraduan_write(
 // Opening: a fresh state's 129 bytes to state, the root in slot 0 of the cache and zeros behind. With 28 a state of zeros, and the cache untouched.
 #[unsafe(no_mangle)]
 pub extern "C" fn thiraduan_open(key: &[u8; 16], cache: &mut [u8], state: &mut [u8; 129]) -> u32
-    ensures value { result ≡ (open_def key.now cache.old).answer.verdict }
+    ensures verdict { result ≡ (open_def key.now cache.old).answer.verdict }
     ensures cache_after { cache.new ≡ (open_def key.now cache.old).bytes }
     ensures state_after { state.new ≡ state_bytes (open_def key.now cache.old).answer.state }
 {
@@ -215,7 +216,7 @@ pub extern "C" fn thiraduan_step(
     cache: &mut [u8],
     told: &mut [u64; 2],
 ) -> u32
-    ensures value { result ≡ (flat_step log.now state.old cache.old told.old).verdict }
+    ensures verdict { result ≡ (flat_step log.now state.old cache.old told.old).verdict }
     ensures state_after { state.new ≡ (flat_step log.now state.old cache.old told.old).state }
     ensures cache_after { cache.new ≡ (flat_step log.now state.old cache.old told.old).cache }
     ensures told_after { told.new ≡ (flat_step log.now state.old cache.old told.old).told }
@@ -240,7 +241,7 @@ pub extern "C" fn thiraduan_run(
     cache: &mut [u8],
     told: &mut [u64; 4],
 ) -> u32
-    ensures value { result ≡ (flat_run log.now state.old cache.old told.old).verdict }
+    ensures verdict { result ≡ (flat_run log.now state.old cache.old told.old).verdict }
     ensures state_after { state.new ≡ (flat_run log.now state.old cache.old told.old).state }
     ensures cache_after { cache.new ≡ (flat_run log.now state.old cache.old told.old).cache }
     ensures told_after { told.new ≡ (flat_run log.now state.old cache.old told.old).told }
@@ -265,7 +266,7 @@ fn is_settled(st: State, epoch: u64) -> bool
 // Whether an epoch is settled in a state's 129 bytes, to yes. Bytes that are no state, or one that is not well formed: 1, and nothing is written.
 #[unsafe(no_mangle)]
 pub extern "C" fn thiraduan_settled(state: &[u8; 129], epoch: u64, yes: &mut u8) -> u32
-    ensures value { result ≡ (flat_settled state.now epoch yes.old).verdict }
+    ensures verdict { result ≡ (flat_settled state.now epoch yes.old).verdict }
     ensures yes_after { yes.new ≡ (flat_settled state.now epoch yes.old).yes }
 {
     let StateRead::Good(st) = flat::read_state(state) else {

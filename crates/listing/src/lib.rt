@@ -67,8 +67,8 @@ fn rows(x: Expanded, log: &[u8], st: State, cache: &mut [u8], out: &mut [u8], at
 // The listing of log, at the start of out; its length. Inner.
 pub fn list(key: &[u8; 16], log: &[u8], out: &mut [u8]) -> usize
     requires { (length log.now ≤ log_limit) × (text_limit ≤ length out.old) }
-    ensures value { (result ≡ length (listing key.now log.now)) × (out.new ≡ splice out.old 0 (listing key.now log.now)) }
-    ensures counts { Counts result out.new }
+    ensures text { (result ≡ length (listing key.now log.now)) × (out.new ≡ splice out.old 0 (listing key.now log.now)) }
+    ensures counted { Counts result out.new }
 {
     let mut cache = [0u8; CACHE_BYTES];
     let opened = state::open(key, &mut cache);

@@ -2,10 +2,14 @@
 // its listing").
 // Only this reads and writes; that what it does is safe and ends is proved, and the text that it writes is the listing's own promise.
 #![tactic(auto)]
+
 ghost use Rattle.std.specs.Prelude.{◌≡◌, length};
 
-use libc::{STDIN_FILENO, STDOUT_FILENO};
 use listing::{LOG_LIMIT, TEXT_ROOM};
+use std::fs::File;
+use std::io;
+use std::io::Read;
+use std::rt::Files;
 
 const KEY_BYTES: usize = 16;
 
@@ -24,33 +28,46 @@ fn text_room() -> [u8; TEXT_ROOM]
     [0; TEXT_ROOM]
 }
 
-// Whether `set.key` is there and has 16 bytes, which are then in key. A seventeenth shows by a second read.
-fn read_key(key: &mut [u8; KEY_BYTES]) -> bool {
-    let file = os::open_read(b"set.key");
-    if file < 0 {
-        return false;
+// Reads until to is full or from has ended; how many bytes.
+fn read_full<R: Read>(from: &mut R, to: &mut [u8]) -> io::Result<usize> {
+    let mut done = 0;
+    while done < to.len() {
+        let n = from.read(&mut to[done..])?;
+        if n == 0 {
+            break;
+        }
+        done += n;
     }
+    Ok(done)
+}
+
+// Whether `set.key` is there and has 16 bytes, which are then in key. A seventeenth shows by a second read.
+fn read_key<R: Files>(files: &R, key: &mut [u8; KEY_BYTES]) -> bool {
+    let Ok(mut file) = File::open(files, "set.key") else {
+        return false;
+    };
     let mut more = [0u8; 1];
-    let n = io::read_full(file, key);
-    let past = io::read_full(file, &mut more);
-    libc::close(file);
+    let Ok(n) = read_full(&mut file, key) else {
+        return false;
+    };
+    let Ok(past) = read_full(&mut file, &mut more) else {
+        return false;
+    };
     n == KEY_BYTES && past == 0
 }
 
 // The key is looked at first.
-fn main() {
+fn main(rt: HostRuntime) -> io::Result<()> {
     let mut key = [0u8; KEY_BYTES];
-    if !read_key(&mut key) {
-        io::write_all(STDOUT_FILENO, b"bad key\n");
-        return;
+    if !read_key(&rt, &mut key) {
+        return rt.write_all(b"bad key\n");
     }
     let mut log = log_room();
-    let n = io::read_full(STDIN_FILENO, &mut log);
+    let n = read_full(&mut rt.reader(), &mut log)?;
     if LOG_LIMIT < n {
-        io::write_all(STDOUT_FILENO, b"log too long\n");
-        return;
+        return rt.write_all(b"log too long\n");
     }
     let mut out = text_room();
     let end = listing::list(&key, &log[..n], &mut out);
-    io::write_all(STDOUT_FILENO, &out[..end]);
+    rt.write_all(&out[..end])
 }

@@ -23,7 +23,7 @@ use Rattle.value.specs.declared.ValueRead.TheVariants as vr
 use Rattle.value.proofs.Back.{value_back}
 use Rattle.value.proofs.Same.{value_same}
 use Rattle.slot.specs.Slots.{slot_length, filled, slot_bytes, all_zero, slot_end, slot_then, slot_at}
-use Rattle.slot.specs.declared.Slot.TheVariants.{Free, Full, Bad}
+use Rattle.slot.specs.declared.Slot.TheVariants.{Free, Full}
 use Rattle.slot.proofs.Laws.{all_zero_lem, zero_all}
 
 -- a slot of zeros is free

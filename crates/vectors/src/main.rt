@@ -2,9 +2,10 @@
 // public call. What it must write is in the file stdout, which the second program writes too. proofs/ has the standards' worked
 // examples, computed from the definitions.
 #![tactic(auto)]
+
 ghost use Rattle.std.specs.Prelude.{◌≡◌, length};
 
-use words::wide;
+use std::io;
 
 // One byte more than the longest message of the public call.
 const ROOM: usize = 65537;
@@ -26,49 +27,52 @@ fn fill(p: &mut [u8]) {
     }
 }
 
-fn show_bytes(b: &[u8]) {
-    let mut i = 0;
-    while i < b.len() {
-        io::print_hex(1, wide(b[i]), 2);
-        i += 1;
+fn show_bytes<R: Print>(rt: &R, b: &[u8]) -> io::Result<()> {
+    for x in b {
+        print!(rt; "{x:02x}")?;
     }
+    Ok(())
 }
 
 // A line: the message's length, the verdict, the digest.
-fn show(m: &[u8]) {
+fn show<R: Print>(rt: &R, m: &[u8]) -> io::Result<()> {
     let a = sha256::digest(m);
     let d = a.bytes;
-    io::print_decimal(1, m.len() as u64);
-    io::write_all(1, b" ");
-    io::print_decimal(1, a.verdict as u64);
-    io::write_all(1, b" ");
-    show_bytes(&d);
-    io::write_all(1, b"\n");
+    let n = m.len();
+    let verdict = a.verdict;
+    print!(rt; "{n} {verdict} ")?;
+    show_bytes(rt, &d)?;
+    println!(rt; "")
 }
 
 // The message's first n bytes.
-fn show_first(p: &[u8], n: usize) {
+fn show_first<R: Print>(rt: &R, p: &[u8], n: usize) -> io::Result<()> {
     if n <= p.len() {
-        show(&p[..n]);
+        return show(rt, &p[..n]);
     }
+    Ok(())
 }
 
-fn main() {
-    show(b"abc");
-    show(b"abcdbcdecdefdefgefghfghighijhijkijkljklmklmnlmnomnopnopq");
+fn main(rt: HostRuntime) -> io::Result<()> {
+    show(&rt, b"abc")?;
     show(
+        &rt,
+        b"abcdbcdecdefdefgefghfghighijhijkijkljklmklmnlmnomnopnopq",
+    )?;
+    show(
+        &rt,
         b"abcdefghbcdefghicdefghijdefghijkefghijklfghijklmghijklmnhijklmnoijklmnopjklmnopqklmnopqrlmnopqrsmnopqrstnopqrstu",
-    );
+    )?;
     let mut p = room();
     fill(&mut p);
-    show_first(&p, 0);
-    show_first(&p, 55);
-    show_first(&p, 56);
-    show_first(&p, 63);
-    show_first(&p, 64);
-    show_first(&p, 119);
-    show_first(&p, 120);
-    show_first(&p, 65535);
-    show_first(&p, 65536);
-    show_first(&p, 65537);
+    show_first(&rt, &p, 0)?;
+    show_first(&rt, &p, 55)?;
+    show_first(&rt, &p, 56)?;
+    show_first(&rt, &p, 63)?;
+    show_first(&rt, &p, 64)?;
+    show_first(&rt, &p, 119)?;
+    show_first(&rt, &p, 120)?;
+    show_first(&rt, &p, 65535)?;
+    show_first(&rt, &p, 65536)?;
+    show_first(&rt, &p, 65537)
 }

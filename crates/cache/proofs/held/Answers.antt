@@ -3,7 +3,6 @@ use borrow.Author.Rules.{rules}
 use mathlib.Core.Path.{sym, ◌∙◌}
 use native.Mathlib.Nat.{add-sub_cancel_left}
 use native.Mathlib.Omega.{arith}
-use Prim.Native.Nat.{◌-◌}
 use Rattle.cache.proofs.held.Goals as goal
 
 pub loop-i-init : goal.loop-i-init

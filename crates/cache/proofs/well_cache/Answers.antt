@@ -1,4 +1,3 @@
-use Prim.Native.Nat.{◌-◌}
 use Rattle.cache.proofs.Laws.{well_starts, well_more, well_stop, well_over}
 use native.Mathlib.Omega.{arith}
 use borrow.Author.Rules.{rules}

@@ -1,4 +1,4 @@
-use Rattle.std.proofs.Common.{◌≡◌, ℕ, ◌+◌, ◌-◌, List, length, take, refl, ap, ◌∙◌, arith, rules}
+use Rattle.std.proofs.Common.{◌≡◌, ℕ, ◌+◌, List, length, take, refl, ap, ◌∙◌, arith, rules}
 use Rattle.compression.proofs.Laws.{known, turned, extended_known, extended_length, words_length}
 use Rattle.compression.specs.Compression.{schedule, rounds, compress}
 use Rattle.compression.proofs.compressed.Goals as goal

@@ -1,6 +1,6 @@
 use Rattle.compression.proofs.Laws.{words_more}
 use Rattle.compression.specs.Compression.{words}
-use Rattle.std.proofs.Common.{◌≡◌, ◌-◌, refl, arith, length-set, rules}
+use Rattle.std.proofs.Common.{◌≡◌, refl, arith, length-set, rules}
 use Rattle.compression.proofs.loaded.Goals as goal
 
 pub loop-i-init : goal.loop-i-init

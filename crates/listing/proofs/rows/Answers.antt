@@ -3,7 +3,7 @@ use Rattle.text.proofs.Laws.{stored_as}
 use Rattle.text.specs.Text.{end_text}
 use Rattle.run.proofs.Laws.{going_state, going_key, turn_step, turn_there, turn_goes, turn_going}
 use mathlib.Core.Path.{refl, sym, ap, ◌∙◌}
-use Prim.Native.Nat.{ℕ, ◌-◌}
+use Prim.Native.Nat.{ℕ}
 use native.Mathlib.Omega.{arith}
 use Rattle.listing.proofs.rows.Goals as goal
 

@@ -1,6 +1,5 @@
 use Rattle.run.proofs.Laws.{going_state, going_key, run_starts, run_over, turn_there, turn_goes, turn_going, turn_on, turn_stop, ended_well}
 use mathlib.Core.Path.{refl, sym, ◌∙◌}
-use Prim.Native.Nat.{◌-◌}
 use native.Mathlib.Omega.{arith}
 use borrow.Author.Rules.{rules}
 use Rattle.run.proofs.run_well.Goals as goal

@@ -2,7 +2,6 @@ use borrow.Author.Rules.{rules}
 use Rattle.sha256.proofs.Laws.{copied, ending_is}
 use lib.ListN.{length-set}
 use native.Mathlib.Omega.{arith}
-use Prim.Native.Nat.{◌-◌}
 use mathlib.Core.Path.{refl}
 use Rattle.sha256.proofs.ending.Goals as goal
 

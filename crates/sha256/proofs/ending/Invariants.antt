@@ -1,5 +1,5 @@
 use lib.ListN.{length, take, replicate}
-use Prim.Native.Nat.{◌+◌, ◌-◌, ◌≤◌}
+use Prim.Native.Nat.{◌-◌, ◌≤◌}
 use mathlib.Core.List.{◌++◌}
 use mathlib.Core.Path.{◌≡◌}
 use Rattle.sha256.proofs.ending.Given as goal

@@ -3,7 +3,7 @@ use lib.Seq.{drop-length}
 use mathlib.Core.List.{List, append-nil}
 use lib.ListN.{set, length, length-set}
 use borrow.Author.Fill.{fill_more}
-use Prim.Native.Nat.{ℕ, ◌-◌}
+use Prim.Native.Nat.{ℕ}
 use native.Mathlib.Omega.{arith}
 use mathlib.Core.Path.{◌≡◌, ap, ◌∙◌}
 use Rattle.slot.proofs.clear.Goals as goal

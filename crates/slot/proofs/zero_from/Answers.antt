@@ -1,7 +1,6 @@
 use Rattle.slot.proofs.Laws.{zero_on, zero_off}
 use native.Mathlib.Omega.{arith}
 use mathlib.Core.Path.{sym, ◌∙◌}
-use Prim.Native.Nat.{◌-◌}
 use Rattle.slot.proofs.zero_from.Goals as goal
 
 pub returns-then-word_at-ne0 : goal.returns-then-word_at-ne0

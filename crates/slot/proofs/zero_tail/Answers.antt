@@ -1,7 +1,6 @@
 use lib.ListN.{drop_of_length-le}
 use Rattle.slot.proofs.Laws.{zero_more, zero_stop}
 use Rattle.slot.specs.Slots.{all_zero}
-use Prim.Native.Nat.{◌-◌}
 use native.Mathlib.Omega.{arith}
 use mathlib.Core.Path.{◌∙◌}
 use Rattle.slot.proofs.zero_tail.Goals as goal

@@ -1,6 +1,5 @@
 use Rattle.term.proofs.Laws.{letters_more, letters_stop, letters_end}
 use native.Mathlib.Omega.{arith}
-use Prim.Native.Nat.{◌-◌}
 use mathlib.Core.Path.{refl, sym, ◌∙◌}
 use borrow.Author.Rules.{rules}
 use Rattle.term.proofs.letters.Goals as goal

@@ -1,6 +1,5 @@
 use Rattle.term.proofs.Laws.{same_more, same_stop, same_end, same_lengths}
 use native.Mathlib.Omega.{arith}
-use Prim.Native.Nat.{◌-◌}
 use mathlib.Core.Path.{refl, ◌∙◌}
 use borrow.Author.Rules.{rules}
 use Rattle.term.proofs.same_bytes.Goals as goal

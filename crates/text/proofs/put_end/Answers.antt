@@ -1,7 +1,6 @@
 use Rattle.text.proofs.Laws.{stored_four, end_length}
 use Rattle.text.specs.Text.{end_text}
 use native.Mathlib.Omega.{arith}
-use borrow.Author.Rules.{rules}
 use Rattle.text.proofs.put_end.Goals as goal
 
 pub put_bytes-a-requires : goal.put_bytes-a-requires

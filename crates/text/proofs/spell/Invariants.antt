@@ -1,6 +1,6 @@
 use Rattle.text.specs.Text.{digits_before, decimal}
 use mathlib.Core.Path.{◌≡◌}
-use Prim.Native.Nat.{◌-◌, ◌^◌, ◌≤◌, ◌<◌}
+use Prim.Native.Nat.{◌^◌, ◌≤◌, ◌<◌}
 use lib.ListN.{length, drop}
 use Rattle.text.proofs.spell.Given as goal
 

@@ -2,7 +2,7 @@ use lib.Seq.{take_all}
 use native.Mathlib.Omega.{arith}
 use mathlib.Core.List.{List}
 use lib.ListN.{length, set, get_or, length-set}
-use Prim.Native.Nat.{ℕ, ◌+◌, ◌-◌}
+use Prim.Native.Nat.{ℕ, ◌+◌}
 use mathlib.Core.Path.{◌≡◌, refl, ap, ◌∙◌}
 use Rattle.words.specs.Splices.{splice}
 use Rattle.words.proofs.Laws.{splice_none, copy_more}

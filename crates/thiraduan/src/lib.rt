@@ -1,5 +1,4 @@
-// The static library: the public calls for C and Rust, each a thin cover over a proved call.
-// A slice passes as a pointer and a length, a lent array as a pointer; the verdict is the result.
+// The public calls for C and Rust, each a thin cover over a proved call. Crate thiraduan_c exports them.
 // Promises upward: what the calls below promise, every lent byte determined; a refused step leaves state and cache as they were, byte for byte.
 #![tactic(auto)]
 
@@ -30,8 +29,7 @@ fn flag(yes: bool) -> u8
 }
 
 // The digest of m goes to out: zero bytes with 30.
-#[unsafe(no_mangle)]
-pub extern "C" fn thiraduan_digest(m: &[u8], out: &mut [u8; 32]) -> u32
+pub fn thiraduan_digest(m: &[u8], out: &mut [u8; 32]) -> u32
     ensures verdict { result ≡ (digest_of m.now).verdict }
     ensures out_after { out.new ≡ (digest_of m.now).bytes }
 {
@@ -42,8 +40,7 @@ pub extern "C" fn thiraduan_digest(m: &[u8], out: &mut [u8; 32]) -> u32
 }
 
 // The term key goes to out: zero bytes with 29.
-#[unsafe(no_mangle)]
-pub extern "C" fn thiraduan_term_key(code: &[u8], term: &[u8], out: &mut [u8; 32]) -> u32
+pub fn thiraduan_term_key(code: &[u8], term: &[u8], out: &mut [u8; 32]) -> u32
     ensures verdict { result ≡ (term_key code.now term.now).verdict }
     ensures out_after { out.new ≡ (term_key code.now term.now).bytes }
 {
@@ -54,8 +51,7 @@ pub extern "C" fn thiraduan_term_key(code: &[u8], term: &[u8], out: &mut [u8; 32
 }
 
 // Whether a sealed entry has the fingerprint, to yes: 0 with 30.
-#[unsafe(no_mangle)]
-pub extern "C" fn thiraduan_fingerprint(sealed: &[u8], fingerprint: &[u8; 32], yes: &mut u8) -> u32
+pub fn thiraduan_fingerprint(sealed: &[u8], fingerprint: &[u8; 32], yes: &mut u8) -> u32
     ensures verdict { result ≡ (matches sealed.now fingerprint.now).verdict }
     ensures yes_after { yes.new ≡ flag (matches sealed.now fingerprint.now).yes }
 {
@@ -65,8 +61,7 @@ pub extern "C" fn thiraduan_fingerprint(sealed: &[u8], fingerprint: &[u8; 32], y
 }
 
 // The tag of m under a set key goes to out: zero bytes with 30.
-#[unsafe(no_mangle)]
-pub extern "C" fn thiraduan_tag(key: &[u8; 16], m: &[u8], out: &mut [u8; 16]) -> u32
+pub fn thiraduan_tag(key: &[u8; 16], m: &[u8], out: &mut [u8; 16]) -> u32
     ensures verdict { result ≡ (tag_of key.now m.now).verdict }
     ensures out_after { out.new ≡ (tag_of key.now m.now).bytes }
 {
@@ -77,8 +72,7 @@ pub extern "C" fn thiraduan_tag(key: &[u8; 16], m: &[u8], out: &mut [u8; 16]) ->
 }
 
 // The expansion of a set key goes to out.
-#[unsafe(no_mangle)]
-pub extern "C" fn thiraduan_expand(key: &[u8; 16], out: &mut [u8; 176])
+pub fn thiraduan_expand(key: &[u8; 16], out: &mut [u8; 176])
     ensures { out.new ≡ expansion key.now }
 {
     let e = aes::expand(key);
@@ -87,8 +81,7 @@ pub extern "C" fn thiraduan_expand(key: &[u8; 16], out: &mut [u8; 176])
 }
 
 // The tag of m under an expanded key goes to out: zero bytes with 30.
-#[unsafe(no_mangle)]
-pub extern "C" fn thiraduan_tag_with(expanded: &[u8; 176], m: &[u8], out: &mut [u8; 16]) -> u32
+pub fn thiraduan_tag_with(expanded: &[u8; 176], m: &[u8], out: &mut [u8; 16]) -> u32
     ensures verdict { result ≡ (tag_with expanded.now m.now).verdict }
     ensures out_after { out.new ≡ (tag_with expanded.now m.now).bytes }
 {
@@ -99,8 +92,7 @@ pub extern "C" fn thiraduan_tag_with(expanded: &[u8; 176], m: &[u8], out: &mut [
 }
 
 // One block under an expanded key goes to out.
-#[unsafe(no_mangle)]
-pub extern "C" fn thiraduan_encrypt(expanded: &[u8; 176], block: &[u8; 16], out: &mut [u8; 16])
+pub fn thiraduan_encrypt(expanded: &[u8; 176], block: &[u8; 16], out: &mut [u8; 16])
     ensures { out.new ≡ encrypted expanded.now block.now }
 {
     let b = aes::encrypt_under(expanded, block);
@@ -109,8 +101,7 @@ pub extern "C" fn thiraduan_encrypt(expanded: &[u8; 176], block: &[u8; 16], out:
 
 // The entry at the start of log: 0, 2 or 3, and its whole length, or 0 with 3, to used. With 0 its tag, s, p, epoch and time go to numbers, its key to key,
 // and its value, and then zeros, to value; what it does not have is 0, the root key or the value none. With 2 and 3 these are untouched.
-#[unsafe(no_mangle)]
-pub extern "C" fn thiraduan_read(
+pub fn thiraduan_read(
     log: &[u8],
     used: &mut u64,
     numbers: &mut [u64; 5],
@@ -147,8 +138,7 @@ pub extern "C" fn thiraduan_read(
 
 // The entry of these fields, written to the front of out: 0 and its length to used, no other byte touched. 2 where they are no entry or it would not be
 // read back, then 27: 0 to used, and out untouched.
-#[unsafe(no_mangle)]
-pub extern "C" fn thiraduan_write(
+pub fn thiraduan_write(
     numbers: &[u64; 5],
     key: &[u8; 34],
     value: &[u8; 137],
@@ -169,8 +159,7 @@ pub extern "C" fn thiraduan_write(
 }
 
 // Opening: a fresh state's 129 bytes to state, the root in slot 0 of the cache and zeros behind. With 28 a state of zeros, and the cache untouched.
-#[unsafe(no_mangle)]
-pub extern "C" fn thiraduan_open(key: &[u8; 16], cache: &mut [u8], state: &mut [u8; 129]) -> u32
+pub fn thiraduan_open(key: &[u8; 16], cache: &mut [u8], state: &mut [u8; 129]) -> u32
     ensures verdict { result ≡ (open_def key.now cache.old).answer.verdict }
     ensures cache_after { cache.new ≡ (open_def key.now cache.old).bytes }
     ensures state_after { state.new ≡ state_bytes (open_def key.now cache.old).answer.state }
@@ -209,8 +198,7 @@ fn answer_epoch(verdict: u32, tag: u8, current: u64) -> u64
 
 // One step on a state's 129 bytes: the next state's bytes to state; the bytes used and the answer's epoch to told, 0 where the entry is
 // refused or no answer. Bytes that are no state: 1, and nothing is written.
-#[unsafe(no_mangle)]
-pub extern "C" fn thiraduan_step(
+pub fn thiraduan_step(
     log: &[u8],
     state: &mut [u8; 129],
     cache: &mut [u8],
@@ -234,8 +222,7 @@ pub extern "C" fn thiraduan_step(
 
 // A run over a log on a state's 129 bytes: the end state's bytes to state; the last epoch settled, entries met, entries accepted and bytes used to told.
 // Bytes that are no state: 1, and nothing is written.
-#[unsafe(no_mangle)]
-pub extern "C" fn thiraduan_run(
+pub fn thiraduan_run(
     log: &[u8],
     state: &mut [u8; 129],
     cache: &mut [u8],
@@ -264,8 +251,7 @@ fn is_settled(st: State, epoch: u64) -> bool
 }
 
 // Whether an epoch is settled in a state's 129 bytes, to yes. Bytes that are no state, or one that is not well formed: 1, and nothing is written.
-#[unsafe(no_mangle)]
-pub extern "C" fn thiraduan_settled(state: &[u8; 129], epoch: u64, yes: &mut u8) -> u32
+pub fn thiraduan_settled(state: &[u8; 129], epoch: u64, yes: &mut u8) -> u32
     ensures verdict { result ≡ (flat_settled state.now epoch yes.old).verdict }
     ensures yes_after { yes.new ≡ (flat_settled state.now epoch yes.old).yes }
 {

@@ -3,7 +3,7 @@
 # of the test is then missing.
 # expect: integrity proofs/RefineAdds.antt
 rm -f crates/rules/proofs/Marked.antt crates/rules/proofs/Empty.antt && echo "pub mod Refused" >crates/rules/proofs/Lib.antt
-sed -i "s/Bool.{Bool, false}/Bool.{Bool, true, false}/" crates/rules/specs/Adds.antt
-sed -i 's/pick (above pk k) (addLink/pick (pick (keyEq pk k) true (above pk k)) (addLink/' crates/rules/specs/Adds.antt
-sed -i 's/by (above pk k) (add-side/by (pick (keyEq pk k) true (above pk k)) (add-side/' crates/rules/proofs/Refused.antt
-sed -i 's/(above pk k) noAncestor/(pick (keyEq pk k) true (above pk k)) noAncestor/' crates/integrity/proofs/RefineAdds.antt
+sed -i "s/Bool, false, leb/Bool, true, false, leb/" crates/rules/specs/Adds.antt
+sed -i 's/pick (above pk k) (add_link/pick (pick (key_eq pk k) true (above pk k)) (add_link/' crates/rules/specs/Adds.antt
+sed -i 's/by (above pk k) (add_side_lem/by (pick (key_eq pk k) true (above pk k)) (add_side_lem/' crates/rules/proofs/Refused.antt
+sed -i 's/(above pk k) no_ancestor/(pick (key_eq pk k) true (above pk k)) no_ancestor/' crates/integrity/proofs/RefineAdds.antt

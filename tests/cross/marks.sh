@@ -3,6 +3,6 @@
 # of the test is then missing.
 # expect: integrity proofs/RefineAdds.antt
 rm -f crates/rules/proofs/Marked.antt crates/rules/proofs/Empty.antt && echo "pub mod Refused" >crates/rules/proofs/Lib.antt
-sed -i 's/pick lm (refuses markedDeferred st c)/pick false (refuses markedDeferred st c)/' crates/rules/specs/Adds.antt crates/integrity/proofs/RefineAdds.antt
-sed -i 's/ lm markedDeferred / false markedDeferred /' crates/integrity/proofs/RefineAdds.antt
-sed -i 's/(by lm (no markedDeferred refl)/(by false (no markedDeferred refl)/' crates/rules/proofs/Refused.antt
+sed -i 's/pick lm (refuses marked_deferred st c)/pick false (refuses marked_deferred st c)/' crates/rules/specs/Adds.antt crates/integrity/proofs/RefineAdds.antt
+sed -i 's/ lm marked_deferred / false marked_deferred /' crates/integrity/proofs/RefineAdds.antt
+sed -i 's/(by lm (no marked_deferred refl)/(by false (no marked_deferred refl)/' crates/rules/proofs/Refused.antt

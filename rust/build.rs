@@ -1,4 +1,4 @@
-// The proved static library: `rt staticlib thiraduan` writes it. THIRADUAN_LIB names another folder.
+// The proved static library: `./build` writes it. THIRADUAN_LIB names another folder.
 fn main() {
     let top = std::path::Path::new(env!("CARGO_MANIFEST_DIR")).parent().unwrap();
     let folder = std::env::var_os("THIRADUAN_LIB").map_or(top.join("target/staticlib"), Into::into);

@@ -16,7 +16,7 @@ fn room(name: &str) -> PathBuf {
 }
 
 fn program(room: &Path, log: &[u8]) -> String {
-    let lister = Path::new(env!("CARGO_MANIFEST_DIR")).join("../target/bin/lister").canonicalize().expect("rt check builds it");
+    let lister = Path::new(env!("CARGO_MANIFEST_DIR")).join("../target/bin/lister").canonicalize().expect("./build builds it");
     let mut child = Command::new(lister).current_dir(room).stdin(Stdio::piped()).stdout(Stdio::piped()).spawn().unwrap();
     // a log that is too long may be left unread
     let _ = child.stdin.take().unwrap().write_all(log);

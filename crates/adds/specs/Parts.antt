@@ -1,4 +1,4 @@
--- Parts of entry 1's rule by name, as `addSide` of the rules has them: each is decided by a function of its own.
+-- Parts of entry 1's rule by name, as `add_side` of the rules has them: each is decided by a function of its own.
 use Rattle.std.specs.Prelude.{ℕ, List, Bool}
 use Rattle.words.specs.Choice.{pick}
 use Rattle.verdict.specs.Verdicts.{marked_deferred, digest_differs, not_first}

@@ -67,8 +67,8 @@ read_used log = go (head_of log)
     go (Whole t n) = used_by (3 + n) (entry_of t (part log 3 n))
 
 -- they are at most what the log has
-pub used-within : (log : List ℕ) → reading_used (read_entry log) ≤ length log
-used-within log = rw (read_used log) (go (head_of log) refl)
+pub used_within : (log : List ℕ) → reading_used (read_entry log) ≤ length log
+used_within log = rw (read_used log) (go (head_of log) refl)
   where
     go : (h : Head) → head_of log ≡ h → head_end h ≤ length log
     go Cut e = omega arith
@@ -79,8 +79,8 @@ unfolding read_entry
 cut_short log e = rw e
 
 -- and at least a head's, where there is an entry
-pub used-some : (log : List ℕ) → (read_entry log ≡ reading.Short → ⊥) → 3 ≤ reading_used (read_entry log)
-used-some log f = rw (read_used log) (go (head_of log) refl)
+pub used_some : (log : List ℕ) → (read_entry log ≡ reading.Short → ⊥) → 3 ≤ reading_used (read_entry log)
+used_some log f = rw (read_used log) (go (head_of log) refl)
   where
     go : (h : Head) → head_of log ≡ h → 3 ≤ head_end h
     go Cut e = absurd (f (cut_short log e))

@@ -124,13 +124,13 @@ module _ (H : Value → Digest) (is_data : Key → Bool) (G : Type 0) (X : Xor G
   abbrev HistOf : Lane → Type 0
   HistOf t = Hist G X τ t.clock t.epoch t.old t.evs t.ads
 
-  open-not-settled : (t : Lane) (i : ℕ) → EpochOpen t i → (e : ℕ) → suc e ≤ t.epoch → (t.old ≡ true → suc (suc e) ≤ t.epoch) → i ≢ e
-  open-not-settled t i (current q) e a b r = omega arith
-  open-not-settled t i (older o q) e a b r = let z = b o in omega arith
+  open_not_settled : (t : Lane) (i : ℕ) → EpochOpen t i → (e : ℕ) → suc e ≤ t.epoch → (t.old ≡ true → suc (suc e) ≤ t.epoch) → i ≢ e
+  open_not_settled t i (current q) e a b r = omega arith
+  open_not_settled t i (older o q) e a b r = let z = b o in omega arith
 
   hist_move : {t : Lane} (c : Key → Option Cell) {A E : List Message} → HistOf t → Timely t A E → HistOf (went t c A E)
   hist_move c h quiet = h
-  hist_move {t} c h (adding m o q) = hist_add G X τ _ _ _ _ _ h m (open-not-settled t m.epoch.0 o)
+  hist_move {t} c h (adding m o q) = hist_add G X τ _ _ _ _ _ h m (open_not_settled t m.epoch.0 o)
   hist_move c h (evicting m e q) = hist_evict G X τ _ _ _ _ _ h m q e
 
   hist : {t : Lane} → Run t → HistOf t
@@ -159,16 +159,16 @@ module _ (H : Value → Digest) (is_data : Key → Bool) (G : Type 0) (X : Xor G
   epoch_mono (advance o) = omega arith
   epoch_mono (close e o q l s) = omega arith
 
-  open-le : (t : Lane) (i : ℕ) → EpochOpen t i → i ≤ t.epoch
-  open-le t i (current q) = omega arith
-  open-le t i (older o q) = omega arith
+  open_le : (t : Lane) (i : ℕ) → EpochOpen t i → i ≤ t.epoch
+  open_le t i (current q) = omega arith
+  open_le t i (older o q) = omega arith
 
-  module _ (root-node : is_data root_key ≡ false) (u : Lane) (e : ℕ) (same : (m : Message) → m.epoch.0 ≤ e → times m u.ads ≡ times m u.evs) (once : (m : Message) → times m u.evs ≤ 1) where
+  module _ (root_node : is_data root_key ≡ false) (u : Lane) (e : ℕ) (same : (m : Message) → m.epoch.0 ≤ e → times m u.ads ≡ times m u.evs) (once : (m : Message) → times m u.evs ≤ 1) where
     -- a deferred add whose epoch is settled: its message was evicted before, and is added this once
     outstanding : (t : Lane) (c : Key → Option Cell) (m : Message) → EpochOpen t m.epoch.0 → m.time.0 ≤ t.clock → Later (went t c (m ∷ []) []) u → t.epoch ≤ e
         → Memᴰ m t.evs × (¬ Memᴰ m t.ads)
     outstanding t c m o q l h =
-        let f = same m (omega (arith, open-le t m.epoch.0 o)) in
+        let f = same m (omega (arith, open_le t m.epoch.0 o)) in
         let g = l.adds m in
         let n = count_yes Message message_dec m m t.ads refl in
         let z = once m in
@@ -208,7 +208,7 @@ module _ (H : Value → Digest) (is_data : Key → Bool) (G : Type 0) (X : Xor G
     grow r a c = record { one = c.one; two = c.two; one_stood = inl c.one_stood; two_stood = inl c.two_stood; differ = c.differ; equal = c.equal }
 
     through : {t : Lane} (r : Run t) → Later t u → Found r ⊎ (AllSay e r × (t.epoch ≤ e → Whole r))
-    through start l = inr (tt, λ h. tree_start H is_data root-node)
+    through start l = inr (tt, λ h. tree_start H is_data root_node)
     through (snoc {t = t} r a) l = elim (through r (later_back a u l)) [
       | inl c ↦ inl (grow r a c)
       | inr x ↦ elim (dec_le t.epoch e) [
@@ -233,9 +233,9 @@ module _ (H : Value → Digest) (is_data : Key → Bool) (G : Type 0) (X : Xor G
   -- demand 3 over accepted steps: the epochs up to e are settled
   pub lane_demand : is_data root_key ≡ false → {u : Lane} (r : Run u) (e : ℕ) → e ≤ lane_settled u
       → Collision H is_data (Stood r) ⊎ (((i : ℕ) × (1 ≤ i) × (i ≤ e) × Cancels G X τ i u.ads u.evs) ⊎ AllSay e r)
-  lane_demand root-node {u} r e h = elim (settle G X τ _ _ _ _ _ (hist r) e (past u.old refl h) (older u.old refl h)) [
+  lane_demand root_node {u} r e h = elim (settle G X τ _ _ _ _ _ (hist r) e (past u.old refl h) (older u.old refl h)) [
     | inl x ↦ inr (inl x)
-    | inr f ↦ elim (through root-node u e f (hist r).once r (later_refl u)) [ inl c ↦ inl c | inr y ↦ inr (inr y.0) ]
+    | inr f ↦ elim (through root_node u e f (hist r).once r (later_refl u)) [ inl c ↦ inl c | inr y ↦ inr (inr y.0) ]
   ]
     where
       past : (o : Bool) → u.old ≡ o → e ≤ settled_by_lem u.epoch o → suc e ≤ u.epoch

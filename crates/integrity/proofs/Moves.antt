@@ -420,7 +420,7 @@ module _ (H : Value → Digest) (is_data : Key → Bool) where
     tree_step (absent p k s x _ _ _ _) o = inr (record { val = F.val; live = F.live; inv = F.inv; stood = λ j i. inl (F.stood j i); agrees = F.agrees })
     tree_step (put k y w ck i n) o = full_put k y w ck i n
 
-  module _ (root-node : is_data root_key ≡ false) where
+  module _ (root_node : is_data root_key ≡ false) where
     -- the opened cache, with no message and no put
     pub tree_start : Full opened_cache_lem [] [] (Cached opened_cache_lem) (λ k. vnone)
     tree_start = record {
@@ -447,7 +447,7 @@ module _ (H : Value → Digest) (is_data : Key → Bool) where
         l = upd (λ k. false) root_key true
 
         root_value_lem : bare ≡ v root_key
-        root_value_lem = ap (λ z. cond z vnone bare) (sym root-node)
+        root_value_lem = ap (λ z. cond z vnone bare) (sym root_node)
 
         no_key : (p k : Key) (s : Bool) → skel v p s ≡ some k → ⊥
         no_key p k s e = none-ne-some k (sym (ap key_of (first_side (is_data p) s)) ∙ e)

@@ -6,7 +6,7 @@ use Prim.Native.Nat.{ℕ}
 use Rattle.value.specs.Values as value
 pub use Rattle.message.specs.declared.Message.{Message}
 use Rattle.integrity.proofs.Ancestors.{Key}
-use Rattle.integrity.proofs.Updates.{On, on, off, pickS}
+use Rattle.integrity.proofs.Updates.{On, on, off, pick_s}
 pub use Rattle.value.specs.declared.Digest.{Digest}
 pub use Rattle.value.specs.declared.Side.{Side}
 pub use Rattle.value.specs.declared.Side.TheVariants.{Empty as empty, Link as link}
@@ -44,7 +44,7 @@ IsNode vnone = ⊥
 IsNode (print f) = ⊥
 IsNode (node n) = Unit
 
-pub set_sides : (s u : Bool) (o : On s u) (x : Side) (v : Value) → IsNode v → side_of u (set_side s x v) ≡ pickS o x (side_of u v)
+pub set_sides : (s u : Bool) (o : On s u) (x : Side) (v : Value) → IsNode v → side_of u (set_side s x v) ≡ pick_s o x (side_of u v)
 set_sides s u o x vnone n = absurd n
 set_sides s u o x (print f) n = absurd n
 set_sides true _ on x (node m) n = refl

@@ -6,7 +6,7 @@ use mathlib.Core.Bool.{Bool, true}
 use mathlib.Core.Option.{Option, none, some, none-ne-some, some-injective}
 use Rattle.integrity.proofs.Ancestors.{Key, Pre, Below, pre_refl, pre_trans, below_pre, side_one, below_trans, below_not_back, Order, same, over, under, order}
 use Rattle.key.specs.Keys.{root_key}
-use Rattle.integrity.proofs.Updates.{Is, is, isnt, view, pick, upd, upd_same, upd_other, Who, anc, rec, other, who, pick3, On, on, off, on_side, pickS}
+use Rattle.integrity.proofs.Updates.{Is, is, isnt, view, pick, upd, upd_same, upd_other, Who, anc, rec, other, who, pick3, On, on, off, on_side, pick_s}
 
 pub record Tree (tk : Key → Bool → Option Key) (live : Key → Bool) : Type 0 where
   pub root : live root_key ≡ true
@@ -43,7 +43,7 @@ module _ (tk : Key → Bool → Option Key) (live : Key → Bool) (T : Tree tk l
 
 -- The skeleton after k is put between p's side s and what that side led to.
 abbrev pub inserted : (Key → Bool → Option Key) → Key → Bool → Key → (Bool → Option Key) → Key → Bool → Option Key
-inserted tk p s k lower q u = pick3 (who p k q) (pickS (on_side s u) (some k) (tk p u)) (lower u) (tk q u)
+inserted tk p s k lower q u = pick3 (who p k q) (pick_s (on_side s u) (some k) (tk p u)) (lower u) (tk q u)
 
 -- What the new node's sides hold: nothing, or what p's side led to.
 pub record Lower (tk : Key → Bool → Option Key) (p : Key) (s : Bool) (k : Key) (lower : Bool → Option Key) : Type 0 where
@@ -70,7 +70,7 @@ module _ (tk : Key → Bool → Option Key) (live : Key → Bool) (T : Tree tk l
   Goal q j o = (r : Key) × (o ≡ some r) × Pre r j
 
   reach' : (q j : Key) (u : Bool) (x : Who p k q) (y : On s u) (z : Is k j) → (q ≢ k → live q ≡ true) → pick z true (live j) ≡ true → Below q u j
-      → Goal q j (pick3 x (pickS y (some k) (tk p u)) (lower u) (tk q u))
+      → Goal q j (pick3 x (pick_s y (some k) (tk p u)) (lower u) (tk q u))
   unfolding Goal
   reach' _ _ _ anc on is lq lj b = (k, refl, pre_refl k)
   reach' _ j _ anc on (isnt n) lq lj b = let r = via j lj b in (k, refl, pre_trans (below_pre r.3) r.4)
@@ -88,19 +88,19 @@ module _ (tk : Key → Bool → Option Key) (live : Key → Bool) (T : Tree tk l
       go (under g) = let r = via q (lq m) g in absurd (below_not_back b (pre_trans (below_pre r.3) r.4))
   reach' q j u (other n m) y (isnt o) lq lj b = T.reach q j u (lq m) lj b
 
-  below' : (q j : Key) (u : Bool) (x : Who p k q) (y : On s u) → pick3 x (pickS y (some k) (tk p u)) (lower u) (tk q u) ≡ some j → Below q u j
+  below' : (q j : Key) (u : Bool) (x : Who p k q) (y : On s u) → pick3 x (pick_s y (some k) (tk p u)) (lower u) (tk q u) ≡ some j → Below q u j
   below' _ j _ anc on e = rw (← some-injective _ _ e) h
   below' _ j u anc (off n) e = T.below p j u e
   below' _ j u (rec n) y e = (L.low u j e).1
   below' q j u (other n m) y e = T.below q j u e
 
-  linked' : (q j : Key) (u : Bool) (x : Who p k q) (y : On s u) → pick3 x (pickS y (some k) (tk p u)) (lower u) (tk q u) ≡ some j → upd live k true j ≡ true
+  linked' : (q j : Key) (u : Bool) (x : Who p k q) (y : On s u) → pick3 x (pick_s y (some k) (tk p u)) (lower u) (tk q u) ≡ some j → upd live k true j ≡ true
   linked' _ j _ anc on e = rw (← some-injective _ _ e) (upd_same live k true)
   linked' _ j u anc (off n) e = raise live k j (T.linked p j u e)
   linked' _ j u (rec n) y e = raise live k j (T.linked p j s (L.low u j e).0)
   linked' q j u (other n m) y e = raise live k j (T.linked q j u e)
 
-  holds' : (q j : Key) (u : Bool) (x : Who p k q) (y : On s u) → pick3 x (pickS y (some k) (tk p u)) (lower u) (tk q u) ≡ some j → upd live k true q ≡ true
+  holds' : (q j : Key) (u : Bool) (x : Who p k q) (y : On s u) → pick3 x (pick_s y (some k) (tk p u)) (lower u) (tk q u) ≡ some j → upd live k true q ≡ true
   holds' _ j u anc y e = raise live k p lp
   holds' _ j u (rec n) y e = upd_same live k true
   holds' q j u (other n m) y e = raise live k q (T.holds q j u e)

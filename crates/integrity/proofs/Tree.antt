@@ -6,7 +6,7 @@ use mathlib.Core.Option.{Option, none, some, none-ne-some}
 use mathlib.Core.List.Memᴰ
 use mathlib.Core.List.{List, ◌∷◌, Memᴰ}
 use Rattle.integrity.proofs.Ancestors.{Key, Pre, pre_refl, Below, below_not_back}
-use Rattle.integrity.proofs.Updates.{Is, is, isnt, view, pick, upd, upd_same, upd_other, Who, anc, rec, other, who, pick3, upd2, On, on, off, on_side, pickS}
+use Rattle.integrity.proofs.Updates.{Is, is, isnt, view, pick, upd, upd_same, upd_other, Who, anc, rec, other, who, pick3, upd2, On, on, off, on_side, pick_s}
 use Rattle.integrity.proofs.Skeleton.{Tree, one_linker, inserted, Lower, insert}
 use Rattle.integrity.proofs.Records.{Digest, empty, link, Value, vnone, print, node, from_tree, from_deferred, Cell, Message, side_of, set_side, IsNode, set_sides, key_of, key_of_link}
 use Rattle.integrity.proofs.OneKey.{first, Good, good_mono, good_write, good_evict_tree, good_evict_deferred, good_add_deferred, good_add_tree, good_new}
@@ -37,7 +37,7 @@ link_to val p s k nd nm vk = upd2 val p (set_side s (link k nd nm) (val p)) k vk
 
 module _ (val : Key → Value) (p : Key) (s : Bool) (k : Key) (nd : Digest) (nm : Bool) (vk : Value) (np : IsNode (val p)) where
   skel_at : (q : Key) (u : Bool) (x : Who p k q) (y : On s u)
-      → key_of (side_of u (pick3 x (set_side s (link k nd nm) (val p)) vk (val q))) ≡ pick3 x (pickS y (some k) (skel val p u)) (key_of (side_of u vk)) (skel val q u)
+      → key_of (side_of u (pick3 x (set_side s (link k nd nm) (val p)) vk (val q))) ≡ pick3 x (pick_s y (some k) (skel val p u)) (key_of (side_of u vk)) (skel val q u)
   skel_at _ _ anc on = ap key_of (set_sides s s on (link k nd nm) (val p) np)
   skel_at _ u anc (off n) = ap key_of (set_sides s u (off n) (link k nd nm) (val p) np)
   skel_at _ u (rec n) y = refl
@@ -59,12 +59,12 @@ module _ (val : Key → Value) (p : Key) (s : Bool) (k : Key) (nd : Digest) (nm 
     others j n d b l = others_at j l.0 l.1 d b (who p k l.0) (on_side s l.1) n l.2
 
   module _ (uniq : (q : Key) (u : Bool) (d : Digest) (b : Bool) → side_of u (val q) ≡ link k d b → (q ≡ p) × (u ≡ s))
-      (none-k : (u : Bool) (d : Digest) (b : Bool) → side_of u vk ≡ link k d b → ⊥) where
+      (none_k : (u : Bool) (d : Digest) (b : Bool) → side_of u vk ≡ link k d b → ⊥) where
     own_at : (q : Key) (u : Bool) (d : Digest) (b : Bool) (x : Who p k q) (y : On s u)
         → side_of u (pick3 x (set_side s (link k nd nm) (val p)) vk (val q)) ≡ link k d b → (d ≡ nd) × (b ≡ nm)
     own_at _ _ d b anc on e = let h = sym (set_sides s s on (link k nd nm) (val p) np) ∙ e in (sym (link_digest h), sym (link_mark h))
     own_at _ u d b anc (off m) e = absurd (m (uniq p u d b (sym (set_sides s u (off m) (link k nd nm) (val p) np) ∙ e)).1)
-    own_at _ u d b (rec m) y e = absurd (none-k u d b e)
+    own_at _ u d b (rec m) y e = absurd (none_k u d b e)
     own_at q u d b (other m o) y e = absurd (m (uniq q u d b e).0)
 
     pub own : (d : Digest) (b : Bool) → Links (link_to val p s k nd nm vk) k d b → (d ≡ nd) × (b ≡ nm)
@@ -72,7 +72,7 @@ module _ (val : Key → Value) (p : Key) (s : Bool) (k : Key) (nd : Digest) (nm 
 
 -- A link made anew where one to the same key stood: the skeleton stays.
 relabel_at : (tk : Key → Bool → Option Key) (p : Key) (s : Bool) (k : Key) → tk p s ≡ some k → (q : Key) (u : Bool) (x : Who p k q) (y : On s u)
-    → pick3 x (pickS y (some k) (tk p u)) (tk k u) (tk q u) ≡ tk q u
+    → pick3 x (pick_s y (some k) (tk p u)) (tk k u) (tk q u) ≡ tk q u
 relabel_at tk p s k e _ _ anc on = sym e
 relabel_at tk p s k e _ u anc (off n) = refl
 relabel_at tk p s k e _ u (rec n) y = refl
@@ -94,14 +94,14 @@ leaf_side s vnone n = refl
 leaf_side s (print f) n = refl
 leaf_side s (node n') n = absurd (n tt)
 
-open-evict : (ev ad : List Message) (m : Message) (j : Key) (n : Message) → Open (m ∷ ev) ad j n → (n ≡ m) ⊎ Open ev ad j n
-open-evict ev ad m j n o = elim (Memᴰ.cases_cons o.0) [ inl e ↦ inl e | inr h ↦ inr (h, o.1, o.2) ]
+open_evict : (ev ad : List Message) (m : Message) (j : Key) (n : Message) → Open (m ∷ ev) ad j n → (n ≡ m) ⊎ Open ev ad j n
+open_evict ev ad m j n o = elim (Memᴰ.cases_cons o.0) [ inl e ↦ inl e | inr h ↦ inr (h, o.1, o.2) ]
 
-open-evict-other : (ev ad : List Message) (m : Message) (j : Key) → j ≢ m.key → (n : Message) → Open (m ∷ ev) ad j n → Open ev ad j n
-open-evict-other ev ad m j d n o = elim (open-evict ev ad m j n o) [ inl e ↦ absurd (d (sym o.2 ∙ ap (λ x. x.key) e)) | inr h ↦ h ]
+open_evict_other : (ev ad : List Message) (m : Message) (j : Key) → j ≢ m.key → (n : Message) → Open (m ∷ ev) ad j n → Open ev ad j n
+open_evict_other ev ad m j d n o = elim (open_evict ev ad m j n o) [ inl e ↦ absurd (d (sym o.2 ∙ ap (λ x. x.key) e)) | inr h ↦ h ]
 
-open-add : (ev ad : List Message) (m : Message) (j : Key) (n : Message) → Open ev (m ∷ ad) j n → Open ev ad j n × (n ≢ m)
-open-add ev ad m j n o = ((o.0, (λ h. o.1 (Memᴰ.tail h)), o.2), (λ e. o.1 (Memᴰ.head e)))
+open_add : (ev ad : List Message) (m : Message) (j : Key) (n : Message) → Open ev (m ∷ ad) j n → Open ev ad j n × (n ≢ m)
+open_add ev ad m j n o = ((o.0, (λ h. o.1 (Memᴰ.tail h)), o.2), (λ e. o.1 (Memᴰ.head e)))
 
 module _ (H : Value → Digest) (is_data : Key → Bool) where
   pub record Inv (c : Key → Option Cell) (val : Key → Value) (live : Key → Bool) (ev ad : List Message) : Type 0 where
@@ -165,20 +165,20 @@ module _ (H : Value → Digest) (is_data : Key → Bool) where
     pub step_evict_tree_deferred : (p k : Key) (s : Bool) (d : Digest) (b : Bool) → side_of s (val p) ≡ link k d b → (xp xk : Cell) → c p ≡ some xp → c k ≡ some xk
         → (m : Message) → m.key ≡ k → m.value ≡ val k
         → Inv (upd2 c p (some (record { origin = xp.origin; value = set_side s (link k d true) (val p) })) k none) (link_to val p s k d true (val k)) live (m ∷ ev) ad
-    step_evict_tree_deferred p k s d b h xp xk cp ck m mk mv = relabel_step p k s d b h d true xp cp none (m ∷ ev) ad (λ j n. open-evict-other ev ad m j (λ e. n (e ∙ mk)))
-        (good_evict_deferred H is_data k (at k (some xk) ck) (λ e a l. (relabel_own p k s d b h d true e a l).1) m mv (open-evict ev ad m k))
+    step_evict_tree_deferred p k s d b h xp xk cp ck m mk mv = relabel_step p k s d b h d true xp cp none (m ∷ ev) ad (λ j n. open_evict_other ev ad m j (λ e. n (e ∙ mk)))
+        (good_evict_deferred H is_data k (at k (some xk) ck) (λ e a l. (relabel_own p k s d b h d true e a l).1) m mv (open_evict ev ad m k))
 
     -- 4: evict a deferred record.
     pub step_evict_deferred : (k : Key) (xk : Cell) → c k ≡ some xk → xk.origin ≡ from_deferred → (m : Message) → m.key ≡ k → m.value ≡ val k
         → Inv (upd c k none) val live (m ∷ ev) ad
-    step_evict_deferred k xk ck o m mk mv = local_step k none (m ∷ ev) ad (λ j n. open-evict-other ev ad m j (λ e. n (e ∙ mk)))
-        (good_evict_deferred H is_data k (at k (some xk) ck) (λ d b. (at k (some xk) ck).mark xk d b refl o) m mv (open-evict ev ad m k))
+    step_evict_deferred k xk ck o m mk mv = local_step k none (m ∷ ev) ad (λ j n. open_evict_other ev ad m j (λ e. n (e ∙ mk)))
+        (good_evict_deferred H is_data k (at k (some xk) ck) (λ d b. (at k (some xk) ck).mark xk d b refl o) m mv (open_evict ev ad m k))
 
     -- 2: add a deferred record, whose message was evicted and not added since.
     pub step_add_deferred : (m : Message) → c m.key ≡ none → Memᴰ m ev → ¬ Memᴰ m ad
         → Inv (upd c m.key (some (record { origin = from_deferred; value = m.value }))) val live ev (m ∷ ad)
-    step_add_deferred m cm h n = local_step m.key _ ev (m ∷ ad) (λ j d n o. (open-add ev ad m j n o).0)
-        (good_add_deferred H is_data m.key (at m.key none cm) m (h, n, refl) (open-add ev ad m m.key))
+    step_add_deferred m cm h n = local_step m.key _ ev (m ∷ ad) (λ j d n o. (open_add ev ad m j n o).0)
+        (good_add_deferred H is_data m.key (at m.key none cm) m (h, n, refl) (open_add ev ad m m.key))
 
     -- 1, same key: add from the tree.
     pub step_add_tree : (p k : Key) (s : Bool) (d : Digest) → side_of s (val p) ≡ link k d false → c k ≡ none → (w : Value) → w ≡ val k

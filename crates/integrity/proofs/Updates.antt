@@ -64,9 +64,9 @@ pub data On (s : Bool) : Bool → Type 0 where
 pub on_side : (s t : Bool) → On s t
 on_side s t = elim (Bool-discrete t s) [ yes e ↦ subst (On s) (sym e) on | no n ↦ off n ]
 
-abbrev pub pickS : {A : Type 0} {s t : Bool} → On s t → A → A → A
-pickS on a b = a
-pickS (off n) a b = b
+abbrev pub pick_s : {A : Type 0} {s t : Bool} → On s t → A → A → A
+pick_s on a b = a
+pick_s (off n) a b = b
 
 pub upd2_anc : {A : Type 0} (f : Key → A) (p : Key) (a : A) (k : Key) (b : A) → upd2 f p a k b p ≡ a
 upd2_anc f p a k b = go p (who p k p) refl

@@ -10,8 +10,8 @@ use Rattle.entry.specs.declared.Head.{Head}
 use Rattle.entry.proofs.Laws.{read_used}
 
 -- an entry's whole length is known by its head
-pub used-head : (log : List ℕ) (h : Head) → h ≡ head_of log → head_end h ≡ reading_used (read_entry log)
-used-head log h e = ap head_end e ∙ sym (read_used log)
+pub used_head : (log : List ℕ) (h : Head) → h ≡ head_of log → head_end h ≡ reading_used (read_entry log)
+used_head log h e = ap head_end e ∙ sym (read_used log)
 
 -- past the end of a log nothing is left
 pub rest_past : (log : List ℕ) (at : ℕ) → length log ≤ at → [] ≡ drop at log

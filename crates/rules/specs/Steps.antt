@@ -39,12 +39,12 @@ pub record Step : Type 0 where
 abbrev pub stepped : Stepped → List ℕ → Step
 stepped r c = record { result = r; bytes = c }
 
-abbrev pub usedBy : ℕ → Done → Stepped
-usedBy n d = record { verdict = d.verdict; state = d.state; used = n }
+abbrev pub used_by : ℕ → Done → Stepped
+used_by n d = record { verdict = d.verdict; state = d.state; used = n }
 
 -- the entry's whole length used, or none
 abbrev pub taking : ℕ → Outcome → Step
-taking n o = stepped (usedBy n o.done) o.bytes
+taking n o = stepped (used_by n o.done) o.bytes
 
 -- 3, 2, then the entry
 abbrev pub step_read : State → List ℕ → Reading → Step

@@ -15,7 +15,7 @@ use Rattle.verdict.specs.Verdicts.{accepted, not_well, wrong_cache}
 use Rattle.aes.specs.Aes.{expansion}
 use Rattle.entry.specs.Entries.{read_entry, reading_used}
 use Rattle.entry.specs.declared.Reading.TheVariants as reading
-use Rattle.entry.proofs.Laws.{used-within, used-some}
+use Rattle.entry.proofs.Laws.{used_within, used_some}
 use Rattle.hash.specs.Hashes.{set_bytes}
 use Rattle.hash.specs.declared.SetKey.{SetKey}
 use Rattle.cache.specs.Caches.{well_length, well_cache}
@@ -35,7 +35,7 @@ short_halts log st c e = rw e
 
 -- where a step does not halt the run, it uses a head at least
 well_goes : (log : List ℕ) (st : State) (c : List ℕ) → halts (step_well log st c).result.verdict ≡ false → 3 ≤ (step_well log st c).result.used
-well_goes log st c h = rw (step_used log st c) (used-some log (λ e. false≢true (sym h ∙ short_halts log st c e)))
+well_goes log st c h = rw (step_used log st c) (used_some log (λ e. false≢true (sym h ∙ short_halts log st c e)))
 
 same_length_well : (c d : List ℕ) → length d ≡ length c → well_length c ≡ true → well_length d ≡ true
 unfolding well_length
@@ -102,7 +102,7 @@ module _ (log : List ℕ) (at : ℕ) (k : SetKey) (st : State) (c : List ℕ) (w
   pub turn_there : at ≤ length log → at + r.used ≤ length log
   turn_there h =
       let u : r.used ≡ reading_used (read_entry (drop at log)) = ap (λ (o : Step). o.result.used) inner ∙ step_used (drop at log) st c in
-      omega (arith, used-within (drop at log), length-drop at log)
+      omega (arith, used_within (drop at log), length-drop at log)
 
   pub turn_goes : halts r.verdict ≡ false → 3 ≤ r.used
   turn_goes f =

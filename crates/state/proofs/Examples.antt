@@ -84,6 +84,6 @@ refused_many : (open_def (zeros 16) (replicate 12480 7)).answer.verdict ≡ 28
 unfolding open_def well_length
 refused_many = refl
 
-opened-most : (open_def (zeros 16) (replicate 12288 7)).answer.verdict ≡ 0
+opened_most : (open_def (zeros 16) (replicate 12288 7)).answer.verdict ≡ 0
 unfolding open_def well_length
-opened-most = refl
+opened_most = refl

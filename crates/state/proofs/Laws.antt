@@ -139,30 +139,30 @@ module _ (key c : List ℕ) where
       pick b (opening (record { verdict = accepted; state = fresh_state key }) (opened_cache (count c - 1)))
       (opening (record { verdict = wrong_cache; state = zero_state }) c)
 
-  open-taken : well_length c ≡ true → open_def key c ≡ chosen true
+  open_taken : well_length c ≡ true → open_def key c ≡ chosen true
   unfolding open_def
-  open-taken w = ap chosen w
+  open_taken w = ap chosen w
 
-  open-left : well_length c ≡ false → open_def key c ≡ chosen false
+  open_left : well_length c ≡ false → open_def key c ≡ chosen false
   unfolding open_def
-  open-left w = ap chosen w
+  open_left w = ap chosen w
 
   pub open_given : (d e : List ℕ) (k : Key) (x : Value) (st : State) → true ≡ well_length c → d ≡ zeros (length c) → k ≡ root_key → x ≡ v.Node bare_node
       → e ≡ splice d 0 (slot_bytes tree k x) → st ≡ fresh_state key → opening (record { verdict = accepted; state = st }) e ≡ open_def key c
   open_given d e k x st w p q r s t =
       let m : e ≡ opened_cache (count c - 1) = s ∙ rw (p, q, r) (opened_splice c (sym w)) in
-      (λ i. opening (record { verdict = accepted; state = t i }) (m i)) ∙ sym (open-taken (sym w))
+      (λ i. opening (record { verdict = accepted; state = t i }) (m i)) ∙ sym (open_taken (sym w))
 
   pub open_refused : (st : State) → false ≡ well_length c → st ≡ zero_state → opening (record { verdict = wrong_cache; state = st }) c ≡ open_def key c
-  open_refused st w t = ap (λ (s : State). opening (record { verdict = wrong_cache; state = s }) c) t ∙ sym (open-left (sym w))
+  open_refused st w t = ap (λ (s : State). opening (record { verdict = wrong_cache; state = s }) c) t ∙ sym (open_left (sym w))
 
   -- an opened state with its cache is well formed
   pub open_well_state : well_length c ≡ true → well_state (open_def key c).answer.state ≡ true
   unfolding fresh_state well_state
-  open_well_state w = ap (λ (o : Opening). well_state o.answer.state) (open-taken w)
+  open_well_state w = ap (λ (o : Opening). well_state o.answer.state) (open_taken w)
 
   pub open_well_cache : well_length c ≡ true → well_cache (open_def key c).bytes ≡ true
-  open_well_cache w = ap (λ (o : Opening). well_cache o.bytes) (open-taken w) ∙ opened_well (count c - 1)
+  open_well_cache w = ap (λ (o : Opening). well_cache o.bytes) (open_taken w) ∙ opened_well (count c - 1)
 
   pub open_well_length : well_length c ≡ true → well_length (open_def key c).bytes ≡ true
-  open_well_length w = ap (λ (o : Opening). well_length o.bytes) (open-taken w) ∙ opened_well_length c w
+  open_well_length w = ap (λ (o : Opening). well_length o.bytes) (open_taken w) ∙ opened_well_length c w

@@ -8,7 +8,7 @@ ghost use Rattle.aes.specs.Aes.{expansion};
 ghost use Rattle.hash.specs.Hashes.{set_bytes};
 ghost use Rattle.state.specs.States.{clock_limit, well_state};
 ghost use Rattle.rules.specs.Outcomes.{outcome};
-ghost use Rattle.rules.specs.Steps.{entry_step, stepped, usedBy, step_well, step};
+ghost use Rattle.rules.specs.Steps.{entry_step, stepped, used_by, step_well, step};
 
 use aes::Expanded;
 use entry::{Entry, Reading};
@@ -41,7 +41,7 @@ fn apply(x: Expanded, e: Entry, st: State, cache: &mut [u8]) -> Done
 }
 
 fn used_by(used: usize, d: Done) -> Stepped
-    ensures { result ≡ usedBy used d }
+    ensures { result ≡ used_by used d }
 {
     let s = d.state;
     Stepped {

@@ -3,6 +3,7 @@
 // Only this reads and writes; that what it does is safe and ends is proved, and the text that it writes is the listing's own promise.
 #![tactic(auto)]
 
+ghost use Rattle.std.specs.Io.{ReadsAtMost};
 ghost use Rattle.std.specs.Prelude.{◌≡◌, length};
 
 use listing::{LOG_LIMIT, TEXT_ROOM};
@@ -28,8 +29,10 @@ fn text_room() -> [u8; TEXT_ROOM]
     [0; TEXT_ROOM]
 }
 
-// Reads until to is full or from has ended; how many bytes.
-fn read_full<R: Read>(from: &mut R, to: &mut [u8]) -> io::Result<usize> {
+// Reads until to is full or from has ended; how many bytes, which are at the front of to.
+fn read_full<R: Read>(from: &mut R, to: &mut [u8]) -> io::Result<usize>
+    ensures { ReadsAtMost result to.new }
+{
     let mut done = 0;
     while done < to.len() {
         let n = from.read(&mut to[done..])?;

@@ -1,4 +1,4 @@
-// The static library: the public calls of crate thiraduan under their names for C, with the same promises.
+// The static library: the public calls of crate thiraduan under their names for C, with the same promises; what each does stands there.
 // A slice passes as a pointer and a length, a lent array as a pointer; the verdict is the result.
 // Promises upward: what the calls below promise, every lent byte determined; a refused step leaves state and cache as they were, byte for byte.
 #![tactic(auto)]
@@ -12,7 +12,6 @@ ghost use Rattle.sha256.specs.Sha256.{digest_of};
 ghost use Rattle.term.specs.Terms.{term_key, matches};
 ghost use Rattle.thiraduan.specs.Answers.{flag, flat_read, flat_write, flat_step, flat_run, flat_settled};
 
-// The digest of m goes to out: zero bytes with 30.
 #[unsafe(no_mangle)]
 pub extern "C" fn thiraduan_digest(m: &[u8], out: &mut [u8; 32]) -> u32
     ensures verdict { result ≡ (digest_of m.now).verdict }
@@ -21,7 +20,6 @@ pub extern "C" fn thiraduan_digest(m: &[u8], out: &mut [u8; 32]) -> u32
     thiraduan::thiraduan_digest(m, out)
 }
 
-// The term key goes to out: zero bytes with 29.
 #[unsafe(no_mangle)]
 pub extern "C" fn thiraduan_term_key(code: &[u8], term: &[u8], out: &mut [u8; 32]) -> u32
     ensures verdict { result ≡ (term_key code.now term.now).verdict }
@@ -30,7 +28,6 @@ pub extern "C" fn thiraduan_term_key(code: &[u8], term: &[u8], out: &mut [u8; 32
     thiraduan::thiraduan_term_key(code, term, out)
 }
 
-// Whether a sealed entry has the fingerprint, to yes: 0 with 30.
 #[unsafe(no_mangle)]
 pub extern "C" fn thiraduan_fingerprint(sealed: &[u8], fingerprint: &[u8; 32], yes: &mut u8) -> u32
     ensures verdict { result ≡ (matches sealed.now fingerprint.now).verdict }
@@ -39,7 +36,6 @@ pub extern "C" fn thiraduan_fingerprint(sealed: &[u8], fingerprint: &[u8; 32], y
     thiraduan::thiraduan_fingerprint(sealed, fingerprint, yes)
 }
 
-// The tag of m under a set key goes to out: zero bytes with 30.
 #[unsafe(no_mangle)]
 pub extern "C" fn thiraduan_tag(key: &[u8; 16], m: &[u8], out: &mut [u8; 16]) -> u32
     ensures verdict { result ≡ (tag_of key.now m.now).verdict }
@@ -48,7 +44,6 @@ pub extern "C" fn thiraduan_tag(key: &[u8; 16], m: &[u8], out: &mut [u8; 16]) ->
     thiraduan::thiraduan_tag(key, m, out)
 }
 
-// The expansion of a set key goes to out.
 #[unsafe(no_mangle)]
 pub extern "C" fn thiraduan_expand(key: &[u8; 16], out: &mut [u8; 176])
     ensures { out.new ≡ expansion key.now }
@@ -56,7 +51,6 @@ pub extern "C" fn thiraduan_expand(key: &[u8; 16], out: &mut [u8; 176])
     thiraduan::thiraduan_expand(key, out);
 }
 
-// The tag of m under an expanded key goes to out: zero bytes with 30.
 #[unsafe(no_mangle)]
 pub extern "C" fn thiraduan_tag_with(expanded: &[u8; 176], m: &[u8], out: &mut [u8; 16]) -> u32
     ensures verdict { result ≡ (tag_with expanded.now m.now).verdict }
@@ -65,7 +59,6 @@ pub extern "C" fn thiraduan_tag_with(expanded: &[u8; 176], m: &[u8], out: &mut [
     thiraduan::thiraduan_tag_with(expanded, m, out)
 }
 
-// One block under an expanded key goes to out.
 #[unsafe(no_mangle)]
 pub extern "C" fn thiraduan_encrypt(expanded: &[u8; 176], block: &[u8; 16], out: &mut [u8; 16])
     ensures { out.new ≡ encrypted expanded.now block.now }
@@ -73,8 +66,6 @@ pub extern "C" fn thiraduan_encrypt(expanded: &[u8; 176], block: &[u8; 16], out:
     thiraduan::thiraduan_encrypt(expanded, block, out);
 }
 
-// The entry at the start of log: 0, 2 or 3, and its whole length, or 0 with 3, to used. With 0 its tag, s, p, epoch and time go to numbers, its key to key,
-// and its value, and then zeros, to value; what it does not have is 0, the root key or the value none. With 2 and 3 these are untouched.
 #[unsafe(no_mangle)]
 pub extern "C" fn thiraduan_read(
     log: &[u8],
@@ -92,8 +83,6 @@ pub extern "C" fn thiraduan_read(
     thiraduan::thiraduan_read(log, used, numbers, key, value)
 }
 
-// The entry of these fields, written to the front of out: 0 and its length to used, no other byte touched. 2 where they are no entry or it would not be
-// read back, then 27: 0 to used, and out untouched.
 #[unsafe(no_mangle)]
 pub extern "C" fn thiraduan_write(
     numbers: &[u64; 5],
@@ -109,7 +98,6 @@ pub extern "C" fn thiraduan_write(
     thiraduan::thiraduan_write(numbers, key, value, out, used)
 }
 
-// Opening: a fresh state's 129 bytes to state, the root in slot 0 of the cache and zeros behind. With 28 a state of zeros, and the cache untouched.
 #[unsafe(no_mangle)]
 pub extern "C" fn thiraduan_open(key: &[u8; 16], cache: &mut [u8], state: &mut [u8; 129]) -> u32
     ensures verdict { result ≡ (open_def key.now cache.old).answer.verdict }
@@ -119,8 +107,6 @@ pub extern "C" fn thiraduan_open(key: &[u8; 16], cache: &mut [u8], state: &mut [
     thiraduan::thiraduan_open(key, cache, state)
 }
 
-// One step on a state's 129 bytes: the next state's bytes to state; the bytes used and the answer's epoch to told, 0 where the entry is
-// refused or no answer. Bytes that are no state: 1, and nothing is written.
 #[unsafe(no_mangle)]
 pub extern "C" fn thiraduan_step(
     log: &[u8],
@@ -136,8 +122,6 @@ pub extern "C" fn thiraduan_step(
     thiraduan::thiraduan_step(log, state, cache, told)
 }
 
-// A run over a log on a state's 129 bytes: the end state's bytes to state; the last epoch settled, entries met, entries accepted and bytes used to told.
-// Bytes that are no state: 1, and nothing is written.
 #[unsafe(no_mangle)]
 pub extern "C" fn thiraduan_run(
     log: &[u8],
@@ -153,7 +137,6 @@ pub extern "C" fn thiraduan_run(
     thiraduan::thiraduan_run(log, state, cache, told)
 }
 
-// Whether an epoch is settled in a state's 129 bytes, to yes. Bytes that are no state, or one that is not well formed: 1, and nothing is written.
 #[unsafe(no_mangle)]
 pub extern "C" fn thiraduan_settled(state: &[u8; 129], epoch: u64, yes: &mut u8) -> u32
     ensures verdict { result ≡ (flat_settled state.now epoch yes.old).verdict }

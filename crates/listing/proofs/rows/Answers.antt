@@ -16,14 +16,11 @@ bounds-log-place c = c.loop-place-test.true
 pub step_well-r-requires : goal.step_well-r-requires
 step_well-r-requires c = (going_state _ _ _ c.loop-place.invariant.5, going_key _ _ c.loop-place.cache _ c.loop-place.invariant.5 c.requires.3)
 
-pub overflow_add-n : goal.overflow_add-n
-overflow_add-n c = omega (arith, c.loop-place-test.true, c.loop-place.invariant.0, c.loop-place.invariant.1, c.loop-place.invariant.3, c.loop-place.invariant.4, c.requires.0, c.requires.1)
-
 pub put_row-end-requires : goal.put_row-end-requires
-put_row-end-requires c = (omega (arith, c.loop-place-test.true, c.loop-place.invariant.0, c.loop-place.invariant.1, c.loop-place.invariant.3, c.loop-place.invariant.4, c.requires.0, c.requires.1), omega (arith, c.loop-place-test.true, c.loop-place.invariant.0, c.loop-place.invariant.1, c.loop-place.invariant.3, c.loop-place.invariant.4, c.requires.0, c.requires.1))
+put_row-end-requires c = (omega arith, omega arith)
 
 pub put_last-requires : goal.put_last-requires
-put_last-requires c = (omega (arith, c.loop-place-test.true, c.loop-place.invariant.0, c.loop-place.invariant.1, c.loop-place.invariant.3, c.loop-place.invariant.4, c.requires.0, c.requires.1), omega (arith, c.put_row-end.ensures.0, c.put_row-end.ensures.2, c.put_row-end.auto.out, c.loop-place-test.true, c.loop-place.invariant.0, c.loop-place.invariant.1, c.loop-place.invariant.3, c.loop-place.invariant.4, c.requires.0, c.requires.1))
+put_last-requires c = (omega arith, omega arith)
 
 pub shape_of-cache-then-halts : goal.shape_of-cache-then-halts
 shape_of-cache-then-halts c = c.step_well-r.auto.cache ∙ c.loop-place.invariant.2
@@ -32,20 +29,29 @@ pub shape_of-out-then-halts : goal.shape_of-out-then-halts
 shape_of-out-then-halts c = c.put_last.auto.out ∙ c.put_row-end.auto.out ∙ c.loop-place.invariant.3
 
 pub returns-then-halts : goal.returns-then-halts
-returns-then-halts c = let t = left_stop c.args.log.now _ _ c.loop-place.place c.loop-place.n c.loop-place.s c.loop-place.cache c.loop-place.end c.loop-place.out c.loop-place.invariant.7 c.step_well-r.result _ (turn_step c.args.log.now c.loop-place.place c.args.st.set c.loop-place.s c.loop-place.cache c.loop-place.invariant.5 c.step_well-r.result _ _ c.left.ensures c.step_well-r.ensures) c.loop-place-test.true (omega (arith, c.loop-place-test.true, c.loop-place.invariant.1)) c.put_row-end.result _ (omega (arith, c.put_row-end.ensures.2, c.loop-place-test.true, c.loop-place.invariant.0, c.loop-place.invariant.1, c.loop-place.invariant.3, c.loop-place.invariant.4, c.requires.0, c.requires.1)) (c.put_row-end.ensures.0, c.put_row-end.ensures.1) (sym c.halts.ensures ∙ c.if-halts.true) _ _ (stored_as _ _ _ _ _ _ (ap (λ (k : ℕ). end_text k c.loop-place.place) c.settled.ensures) (c.put_last.ensures.0, c.put_last.ensures.1)) in
-    (t.0, t.1, omega (arith, c.put_last.ensures.2, c.put_row-end.auto.out, c.loop-place.invariant.3))
+returns-then-halts c = let t = left_stop c.args.log.now _ _ c.loop-place.place c.loop-place.n c.loop-place.s c.loop-place.cache c.loop-place.end c.loop-place.out c.loop-place.invariant.7 c.step_well-r.result _ (turn_step c.args.log.now c.loop-place.place _ _ _ c.loop-place.invariant.5 _ _ _ c.left.ensures c.step_well-r.ensures) c.loop-place-test.true (omega arith) c.put_row-end.result _ (omega arith) (c.put_row-end.ensures.0, c.put_row-end.ensures.1) (sym c.halts.ensures ∙ c.if-halts.true) _ _ (stored_as _ _ _ _ _ _ (ap (λ (k : ℕ). end_text k c.loop-place.place) c.settled.ensures) (c.put_last.ensures.0, c.put_last.ensures.1)) in
+    (t.0, t.1, omega arith)
 
 pub overflow_add-place : goal.overflow_add-place
-overflow_add-place c = omega (arith, turn_there c.args.log.now c.loop-place.place c.args.st.set c.loop-place.s c.loop-place.cache c.loop-place.invariant.5 c.step_well-r.result _ _ c.left.ensures c.step_well-r.ensures (omega (arith, c.loop-place-test.true)), c.loop-place-test.true, c.loop-place.invariant.0, c.loop-place.invariant.1, c.loop-place.invariant.3, c.loop-place.invariant.4, c.requires.0, c.requires.1)
+overflow_add-place c = omega (arith, turn_there c.args.log.now c.loop-place.place _ _ _ c.loop-place.invariant.5 _ _ _ c.left.ensures c.step_well-r.ensures (omega arith))
 
 pub loop-place-smaller : goal.loop-place-smaller
-loop-place-smaller c = omega (arith, turn_there c.args.log.now c.loop-place.place c.args.st.set c.loop-place.s c.loop-place.cache c.loop-place.invariant.5 c.step_well-r.result _ _ c.left.ensures c.step_well-r.ensures (omega (arith, c.loop-place-test.true)), turn_goes c.args.log.now c.loop-place.place c.args.st.set c.loop-place.s c.loop-place.cache c.loop-place.invariant.5 c.step_well-r.result _ _ c.left.ensures c.step_well-r.ensures (sym c.halts.ensures ∙ c.if-halts.false), c.loop-place-test.true, c.loop-place.invariant.0, c.loop-place.invariant.1, c.loop-place.invariant.3, c.loop-place.invariant.4, c.requires.0, c.requires.1)
+loop-place-smaller c = omega (arith, turn_there c.args.log.now c.loop-place.place _ _ _ c.loop-place.invariant.5 _ _ _ c.left.ensures c.step_well-r.ensures (omega arith), turn_goes c.args.log.now c.loop-place.place _ _ _ c.loop-place.invariant.5 _ _ _ c.left.ensures c.step_well-r.ensures (sym c.halts.ensures ∙ c.if-halts.false))
 
 pub loop-place-preserved : goal.loop-place-preserved
-loop-place-preserved c = (turn_there c.args.log.now c.loop-place.place c.args.st.set c.loop-place.s c.loop-place.cache c.loop-place.invariant.5 c.step_well-r.result _ _ c.left.ensures c.step_well-r.ensures (omega (arith, c.loop-place-test.true)), omega (arith, turn_goes c.args.log.now c.loop-place.place c.args.st.set c.loop-place.s c.loop-place.cache c.loop-place.invariant.5 c.step_well-r.result _ _ c.left.ensures c.step_well-r.ensures (sym c.halts.ensures ∙ c.if-halts.false), c.loop-place-test.true, c.loop-place.invariant.0, c.loop-place.invariant.1, c.loop-place.invariant.3, c.loop-place.invariant.4, c.requires.0, c.requires.1), c.step_well-r.auto.cache ∙ c.loop-place.invariant.2, c.put_row-end.auto.out ∙ c.loop-place.invariant.3, omega (arith, c.put_row-end.ensures.0, c.put_row-end.ensures.2, c.loop-place.invariant.4), turn_going c.args.log.now c.loop-place.place c.args.st.set c.loop-place.s c.loop-place.cache c.loop-place.invariant.5 c.step_well-r.result _ _ c.left.ensures c.step_well-r.ensures (λ i. (c.shared_slice_known-1.given i).fits) c.loop-place.invariant.6, λ i. (c.slice_known-in-loop-place-1.given i).fits, left_on c.args.log.now _ _ c.loop-place.place c.loop-place.n c.loop-place.s c.loop-place.cache c.loop-place.end c.loop-place.out c.loop-place.invariant.7 c.step_well-r.result _ (turn_step c.args.log.now c.loop-place.place c.args.st.set c.loop-place.s c.loop-place.cache c.loop-place.invariant.5 c.step_well-r.result _ _ c.left.ensures c.step_well-r.ensures) c.loop-place-test.true (omega (arith, c.loop-place-test.true, c.loop-place.invariant.1)) c.put_row-end.result _ (omega (arith, c.put_row-end.ensures.2, c.loop-place-test.true, c.loop-place.invariant.0, c.loop-place.invariant.1, c.loop-place.invariant.3, c.loop-place.invariant.4, c.requires.0, c.requires.1)) (c.put_row-end.ensures.0, c.put_row-end.ensures.1) (sym c.halts.ensures ∙ c.if-halts.false))
+loop-place-preserved c = (
+  turn_there c.args.log.now c.loop-place.place _ _ _ c.loop-place.invariant.5 _ _ _ c.left.ensures c.step_well-r.ensures (omega arith),
+  omega (arith, turn_goes c.args.log.now c.loop-place.place _ _ _ c.loop-place.invariant.5 _ _ _ c.left.ensures c.step_well-r.ensures (sym c.halts.ensures ∙ c.if-halts.false)),
+  c.step_well-r.auto.cache ∙ c.loop-place.invariant.2,
+  c.put_row-end.auto.out ∙ c.loop-place.invariant.3,
+  omega arith,
+  turn_going c.args.log.now c.loop-place.place _ _ _ c.loop-place.invariant.5 _ _ _ c.left.ensures c.step_well-r.ensures (λ i. (c.shared_slice_known-1.given i).fits) c.loop-place.invariant.6,
+  λ i. (c.slice_known-in-loop-place-1.given i).fits,
+  left_on c.args.log.now _ _ c.loop-place.place c.loop-place.n c.loop-place.s c.loop-place.cache c.loop-place.end c.loop-place.out c.loop-place.invariant.7 c.step_well-r.result _ (turn_step c.args.log.now c.loop-place.place _ _ _ c.loop-place.invariant.5 _ _ _ c.left.ensures c.step_well-r.ensures) c.loop-place-test.true (omega arith) c.put_row-end.result _ (omega arith) (c.put_row-end.ensures.0, c.put_row-end.ensures.1) (sym c.halts.ensures ∙ c.if-halts.false),
+)
 
 pub put_last-requires-2 : goal.put_last-requires-2
-put_last-requires-2 c = (omega (arith, c.loop-place-test.false, c.loop-place.invariant.0, c.requires.0), omega (arith, c.loop-place.invariant.0, c.loop-place.invariant.1, c.loop-place.invariant.3, c.loop-place.invariant.4, c.requires.0, c.requires.1))
+put_last-requires-2 c = (omega arith, omega arith)
 
 pub shape_of-cache : goal.shape_of-cache
 shape_of-cache c = c.loop-place.invariant.2
@@ -55,4 +61,4 @@ shape_of-out c = c.put_last-2.auto.out ∙ c.loop-place.invariant.3
 
 pub returns : goal.returns
 returns c = let t = left_over _ _ _ _ _ _ _ _ _ c.loop-place.invariant.7 c.loop-place-test.false _ _ (stored_as _ _ _ _ _ _ (ap (λ (k : ℕ). end_text k c.loop-place.place) c.settled-2.ensures) (c.put_last-2.ensures.0, c.put_last-2.ensures.1)) in
-    (t.0, t.1, omega (arith, c.put_last-2.ensures.2, c.loop-place.invariant.3))
+    (t.0, t.1, omega arith)

@@ -3,7 +3,7 @@ use Rattle.std.specs.Prelude.{ℕ, List, Bool}
 use Rattle.words.specs.Choice.{pick}
 use Rattle.verdict.specs.Verdicts.{marked_deferred, digest_differs, not_first}
 use Rattle.key.specs.declared.Key.{Key}
-use Rattle.value.specs.Values.{digest_eq}
+use Rattle.value.specs.Values.{digest_eq, is_first}
 use Rattle.value.specs.declared.Digest.{Digest}
 use Rattle.value.specs.declared.Node.{Node}
 use Rattle.value.specs.declared.Value.{Value}
@@ -21,6 +21,6 @@ add_same s k x ld lm st c =
     (pick (digest_eq ld (digest_of x)) (accepts st (put_slot c s tree k x)) (refuses digest_differs st c))
 
 -- a new link to our key, where the value given is first (15); y is the value as stored
-abbrev pub add_first : ℕ → ℕ → ℕ → Key → Node → Bool → Key → Bool → Value → State → List ℕ → Outcome
-add_first s p po pk n right k first y st c =
-    pick first (accepts st (linked s p po pk n right k y c)) (refuses not_first st c)
+abbrev pub add_first : ℕ → ℕ → ℕ → Key → Node → Bool → Key → Value → Value → State → List ℕ → Outcome
+add_first s p po pk n right k x y st c =
+    pick (is_first x) (accepts st (linked s p po pk n right k y c)) (refuses not_first st c)

@@ -1,197 +1,165 @@
-// Entry 1, once its body is read: add from tree. It scans the slots' keys once (7) and works at most one digest.
-// Promises upward: verdict, state and every byte of the cache are the rules', for any state and any lent cache.
+//! Entry 1, once its body is read: add from tree. It scans the slots' keys once (7) and works at most one digest.
+//! Promises upward: verdict, state and every byte of the cache are the rules', for any state and any lent cache. The functions inside answer
+//! with the verdict alone: the entry leaves every state as it was.
 #![tactic(auto)]
 
 ghost use Rattle.std.specs.Prelude.{◌≡◌, ◌+◌, ◌*◌, ◌≤◌, length};
+ghost use Rattle.verdict.specs.Verdicts.{told};
 ghost use Rattle.slot.specs.Slots.{slot_length};
-ghost use Rattle.rules.specs.Outcomes.{outcome};
+ghost use Rattle.state.specs.declared.State.{State};
+ghost use Rattle.rules.specs.Outcomes.{outcome, gives, done};
 ghost use Rattle.adds.specs.Parts.{add_same, add_first};
-ghost use Rattle.rules.specs.Adds.{linked, add_link, add_node, add_under, add_tree};
+ghost use Rattle.rules.specs.Adds.{linked, add_link, add_under, add_tree};
 
 use key::Key;
-use rules::{Done, gives};
+use rules::Parent;
 use slot::{ORIGIN_TREE, SLOT_BYTES, Slot, set_slot, slot_of};
 use state::State;
-use tree::{bare_node, fits, is_first, side_of, with_side};
-use value::{Digest, Node, Side, Value};
+use tree::{bare_node, fits, is_first, with_side};
+use value::{Digest, Side, Value};
+use verdict::Refusal;
 
-// Where p's side was empty or named a key below ours: the new link in p's slot, the record in slot s. Inner.
-fn set_link(
-    s: usize,
-    p: usize,
-    po: u8,
-    pk: Key,
-    n: Node,
-    right: bool,
-    k: Key,
-    v: Value,
-    cache: &mut [u8],
-)
-    requires { ((s + 1) * slot_length ≤ length cache.old) × ((p + 1) * slot_length ≤ length cache.old) }
-    ensures { cache.new ≡ linked s p po pk n right k v cache.old }
-{
-    let new = Side::Link {
-        key: k,
-        digest: hash::digest_of(v),
-        mark: false,
-    };
-    set_slot(cache, p, po, pk, Value::Node(with_side(n, right, new)));
-    set_slot(cache, s, ORIGIN_TREE, k, v);
+// The record to be added: the slot that it goes into, its key, and the value given.
+#[derive(Clone, Copy)]
+struct Record {
+    slot: usize,
+    key: Key,
+    value: Value,
 }
 
-// 15: the value given must be first; y is the value as stored. Inner.
-fn add_first(
-    s: usize,
-    p: usize,
-    po: u8,
-    pk: Key,
-    n: Node,
-    right: bool,
-    k: Key,
-    first: bool,
-    y: Value,
-    st: State,
-    cache: &mut [u8],
-) -> Done
-    requires { ((s + 1) * slot_length ≤ length cache.old) × ((p + 1) * slot_length ≤ length cache.old) }
-    ensures { outcome result cache.new ≡ add_first s p po pk n right k first y st cache.old }
-{
-    if first {
-        set_link(s, p, po, pk, n, right, k, y, cache);
-        return gives(verdict::ACCEPTED, st);
+impl Record {
+    // Where p's side was empty or named a key below ours: the new link in p's slot, the record in its own. Inner.
+    #[tactic(auto, unfolding(rules::specs::Adds::linked))]
+    fn set_link(self, at: Parent, cache: &mut [u8])
+        requires { ((self.slot + 1) * slot_length ≤ length cache.old) × ((at.slot + 1) * slot_length ≤ length cache.old) }
+        ensures { cache.new ≡ linked self.slot at.slot at.origin at.key at.node at.right self.key self.value cache.old }
+    {
+        let link = Side::Link {
+            key: self.key,
+            digest: hash::digest_of(self.value),
+            mark: false,
+        };
+        at.set_side(link, cache);
+        set_slot(cache, self.slot, ORIGIN_TREE, self.key, self.value);
     }
-    gives(verdict::NOT_FIRST, st)
-}
 
-// 13, 14: p's link names our key. Inner.
-fn add_same(s: usize, k: Key, v: Value, ld: Digest, lm: bool, st: State, cache: &mut [u8]) -> Done
-    requires { (s + 1) * slot_length ≤ length cache.old }
-    ensures { outcome result cache.new ≡ add_same s k v ld lm st cache.old }
-{
-    if lm {
-        return gives(verdict::MARKED_DEFERRED, st);
+    // 15: the value given must be first; stored is the value as it goes into the slot. Inner.
+    fn add_first(self, at: Parent, stored: Value, cache: &mut [u8]) -> Result<(), Refusal>
+        requires { ((self.slot + 1) * slot_length ≤ length cache.old) × ((at.slot + 1) * slot_length ≤ length cache.old) }
+        ensures { (st : State) → outcome (gives (told result) st) cache.new ≡ add_first self.slot at.slot at.origin at.key at.node at.right self.key self.value stored st cache.old }
+    {
+        if !is_first(self.value) {
+            return Err(Refusal::NotFirst);
+        }
+        let record = Record {
+            value: stored,
+            ..self
+        };
+        record.set_link(at, cache);
+        Ok(())
     }
-    if ld.same(hash::digest_of(v)) {
-        set_slot(cache, s, ORIGIN_TREE, k, v);
-        return gives(verdict::ACCEPTED, st);
-    }
-    gives(verdict::DIGEST_DIFFERS, st)
-}
 
-// 12 to 15: by p's link toward the key. Inner.
-fn add_link(
-    s: usize,
-    p: usize,
-    po: u8,
-    pk: Key,
-    n: Node,
-    right: bool,
-    k: Key,
-    v: Value,
-    st: State,
-    cache: &mut [u8],
-) -> Done
-    requires { ((s + 1) * slot_length ≤ length cache.old) × ((p + 1) * slot_length ≤ length cache.old) }
-    ensures { outcome result cache.new ≡ add_link s p po pk n right k v st cache.old }
-{
-    let first = is_first(v);
-    match side_of(n, right) {
-        Side::Empty => add_first(s, p, po, pk, n, right, k, first, v, st, cache),
-        Side::Link {
-            key: lk,
-            digest: ld,
-            mark: lm,
-        } => {
-            if lk.same(k) {
-                return add_same(s, k, v, ld, lm, st, cache);
+    // 13, 14: p's link names our key. Inner.
+    #[tactic(auto, unfolding(value::specs::Values::digest_eq))]
+    fn add_same(self, digest: Digest, mark: bool, cache: &mut [u8]) -> Result<(), Refusal>
+        requires { (self.slot + 1) * slot_length ≤ length cache.old }
+        ensures { (st : State) → outcome (gives (told result) st) cache.new ≡ add_same self.slot self.key self.value digest mark st cache.old }
+    {
+        if mark {
+            return Err(Refusal::MarkedDeferred);
+        }
+        if digest != hash::digest_of(self.value) {
+            return Err(Refusal::DigestDiffers);
+        }
+        set_slot(cache, self.slot, ORIGIN_TREE, self.key, self.value);
+        Ok(())
+    }
+
+    // 12 to 15: by p's link toward the key. Inner.
+    #[tactic(auto, unfolding(rules::specs::Adds::add_link, key::specs::Keys::key_eq))]
+    fn add_link(self, at: Parent, cache: &mut [u8]) -> Result<(), Refusal>
+        requires { ((self.slot + 1) * slot_length ≤ length cache.old) × ((at.slot + 1) * slot_length ≤ length cache.old) }
+        ensures { (st : State) → outcome (gives (told result) st) cache.new ≡ add_link self.slot at.slot at.origin at.key at.node at.right self.key self.value st cache.old }
+    {
+        let side = at.side();
+        match side {
+            Side::Empty => self.add_first(at, self.value, cache),
+            Side::Link { key, digest, mark } => {
+                if key == self.key {
+                    return self.add_same(digest, mark, cache);
+                }
+                if !self.key.above(key) {
+                    return Err(Refusal::OtherBranch);
+                }
+                let between = with_side(bare_node(), self.key.toward(key), side);
+                self.add_first(at, Value::Node(between), cache)
             }
-            if k.above(lk) {
-                let old = Side::Link {
-                    key: lk,
-                    digest: ld,
-                    mark: lm,
+        }
+    }
+
+    // 6 of p, 7, 8, 10. Inner.
+    #[tactic(auto, unfolding(rules::specs::Adds::add_under, rules::specs::Adds::add_node))]
+    fn add_under(self, p: usize, cache: &mut [u8]) -> Result<(), Refusal>
+        requires { ((self.slot + 1) * slot_length ≤ length cache.old) × ((p + 1) * slot_length ≤ length cache.old) }
+        ensures { (st : State) → outcome (gives (told result) st) cache.new ≡ add_under self.slot p self.key self.value st cache.old }
+    {
+        match slot_of(cache, p) {
+            Slot::Free => Err(Refusal::SlotEmpty),
+            Slot::Bad => Err(Refusal::NotWell),
+            Slot::Full { origin, key, value } => {
+                if cache::held(cache, self.key) {
+                    return Err(Refusal::KeyHeld);
+                }
+                if !fits(self.key, self.value) {
+                    return Err(Refusal::WrongKind);
+                }
+                let Value::Node(node) = value else {
+                    return Err(Refusal::WrongKind);
                 };
-                let y = Value::Node(with_side(bare_node(), k.toward(lk), old));
-                return add_first(s, p, po, pk, n, right, k, first, y, st, cache);
+                if !key.above(self.key) {
+                    return Err(Refusal::NoAncestor);
+                }
+                let at = Parent {
+                    slot: p,
+                    origin,
+                    key,
+                    node,
+                    right: key.toward(self.key),
+                };
+                self.add_link(at, cache)
             }
-            gives(verdict::OTHER_BRANCH, st)
         }
     }
 }
 
-// 8 of p, 10. Inner.
-fn add_node(
-    s: usize,
-    p: usize,
-    po: u8,
-    pk: Key,
-    pv: Value,
+/// 1: s, p, key, value. 4 of s and of p, 5, and so on.
+#[tactic(auto, unfolding(rules::specs::Adds::add_tree))]
+pub fn add_tree(
+    s: u16,
+    p: u16,
     k: Key,
     v: Value,
     st: State,
     cache: &mut [u8],
-) -> Done
-    requires { ((s + 1) * slot_length ≤ length cache.old) × ((p + 1) * slot_length ≤ length cache.old) }
-    ensures { outcome result cache.new ≡ add_node s p po pk pv k v st cache.old }
-{
-    match pv {
-        Value::None => gives(verdict::WRONG_KIND, st),
-        Value::Fingerprint(_) => gives(verdict::WRONG_KIND, st),
-        Value::Node(n) => {
-            if pk.above(k) {
-                let right = pk.toward(k);
-                return add_link(s, p, po, pk, n, right, k, v, st, cache);
-            }
-            gives(verdict::NO_ANCESTOR, st)
-        }
-    }
-}
-
-// 6 of p, 7, 8. Inner.
-fn add_under(s: usize, p: usize, k: Key, v: Value, st: State, cache: &mut [u8]) -> Done
-    requires { ((s + 1) * slot_length ≤ length cache.old) × ((p + 1) * slot_length ≤ length cache.old) }
-    ensures { outcome result cache.new ≡ add_under s p k v st cache.old }
-{
-    match slot_of(cache, p) {
-        Slot::Free => gives(verdict::SLOT_EMPTY, st),
-        Slot::Bad => gives(verdict::NOT_WELL, st),
-        Slot::Full {
-            origin: po,
-            key: pk,
-            value: pv,
-        } => {
-            let present = cache::held(cache, k);
-            if present {
-                return gives(verdict::KEY_HELD, st);
-            }
-            if fits(k, v) {
-                return add_node(s, p, po, pk, pv, k, v, st, cache);
-            }
-            gives(verdict::WRONG_KIND, st)
-        }
-    }
-}
-
-// 1: s, p, key, value. 4 of s and of p, 5, and so on.
-pub fn add_tree(s: u16, p: u16, k: Key, v: Value, st: State, cache: &mut [u8]) -> Done
-    ensures { outcome result cache.new ≡ add_tree s p k v st cache.old }
+) -> Result<State, Refusal>
+    ensures { outcome (done result st) cache.new ≡ add_tree s p k v st cache.old }
 {
     let count = cache.len() / SLOT_BYTES;
-    let i = s as usize;
-    let j = p as usize;
-    if count <= i {
-        return gives(verdict::NO_SLOT, st);
+    let slot = usize::from(s);
+    let p = usize::from(p);
+    if count <= slot || count <= p {
+        return Err(Refusal::NoSlot);
     }
-    if count <= j {
-        return gives(verdict::NO_SLOT, st);
+    match slot_of(cache, slot) {
+        Slot::Free => {}
+        Slot::Bad => return Err(Refusal::NotWell),
+        Slot::Full { .. } => return Err(Refusal::SlotTaken),
     }
-    match slot_of(cache, i) {
-        Slot::Free => add_under(i, j, k, v, st, cache),
-        Slot::Bad => gives(verdict::NOT_WELL, st),
-        Slot::Full {
-            origin: _,
-            key: _,
-            value: _,
-        } => gives(verdict::SLOT_TAKEN, st),
-    }
+    let record = Record {
+        slot,
+        key: k,
+        value: v,
+    };
+    record.add_under(p, cache)?;
+    Ok(st)
 }

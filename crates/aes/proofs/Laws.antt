@@ -1,14 +1,15 @@
 -- Laws of words of four bytes, of columns, of rounds and of the key schedule. Assumes nothing.
-use mathlib.Core.Path.{◌≡◌, ap, ap₂, sym, ◌∙◌}
+use mathlib.Core.Path.{◌≡◌, refl, ap, ap₂, sym, ◌∙◌}
 use mathlib.Core.Bool.{Bool}
 use mathlib.Core.List.{List, [], ◌∷◌, ◌++◌, append_assoc, append-nil}
-use Prim.Native.Nat.{ℕ, zero, suc, ◌+◌, ◌*◌, ◌/◌, ◌%◌, ◌^◌, ◌≤◌, ◌<◌, zero-le}
+use Prim.Native.Nat.{ℕ, zero, suc, ◌+◌, ◌-◌, ◌*◌, ◌/◌, ◌%◌, ◌^◌, ◌≤◌, ◌<◌, zero-le}
 use native.Mathlib.Nat.{add-zero}
 use native.Mathlib.Numerals.{add-one}
 use native.Mathlib.Omega.{arith}
 use borrow.Author.Tests.{eq-eqb, ne_eqb}
-use lib.Bits.{bit_xor, bit_or, xor_block, xor_comm, or_zero_r, or_shifted_r}
+use lib.Bits.{bit_xor, bit_or, xor_block, xor_comm, or_self, or_shifted, or_shifted_r}
 use lib.ListN.{length, get_or, take, length-append, drop_of_length-le}
+use Rattle.std.specs.Int.{w32, rotate_left, rotate_right}
 use Rattle.words.proofs.Laws.{bytes_length, number_front, number_at_lem, take_splice, splice_four}
 use Rattle.words.specs.Choice.{pick}
 use Rattle.words.specs.Numbers.{number_at, bytes_of}
@@ -17,7 +18,7 @@ use Rattle.sbox.specs.Field.{xtime, three, sub}
 use Rattle.sbox.specs.Columns.{pack, spread}
 use Rattle.sbox.proofs.Laws.{values_at, sub_lt, xtime_lt, xlt, three_lt}
 use Rattle.sbox.proofs.Xor.{xor_assoc}
-use Rattle.aes.specs.Aes.{byte0, byte1, byte2, byte3, state, sub_word, sub_bytes, shifted, shift_rows, mix_bytes, mix_column, mix_columns, add_round_key, round, rounds, last_round, cipher, word_of, rot_word, rcon, next_word, schedule, key_words, block_at, block_bytes, encrypted, column, last_column, rotr, push, next_of}
+use Rattle.aes.specs.Aes.{byte0, byte1, byte2, byte3, state, sub_word, sub_bytes, shifted, shift_rows, mix_bytes, mix_column, mix_columns, add_round_key, round, rounds, last_round, cipher, word_of, rot_word, rcon, next_word, schedule, key_words, block_at, block_bytes, encrypted, column, push, next_of}
 use Rattle.aes.specs.declared.Block.{Block}
 
 -- ---- words of four bytes
@@ -36,30 +37,33 @@ pack_xor a b c d e f g h hb hc hd hf hg hh =
     ∙ ap (λ (v : ℕ). v * 2 ^ 8 + bit_xor d h)
     (xor_block 8 (a * 2 ^ 8 + b) (e * 2 ^ 8 + f) c g hc hg ∙ ap (λ (v : ℕ). v * 2 ^ 8 + bit_xor c g) (xor_block 8 a e b f hb hf))
 
--- turned by no bits, a word stays
-turn_none : (v : ℕ) → v < 2 ^ 32 → rotr 0 v ≡ v
+-- a word turned n bits to the right
+abbrev turned : ℕ → ℕ → ℕ
+turned n v = rotate_right w32 v n
+
+turn_none : (v : ℕ) → v < 2 ^ 32 → turned 0 v ≡ v
 turn_none v h =
     let e : v / 2 ^ 0 ≡ v = omega arith in
-    let f : v * 2 ^ 31 % 2 ^ 32 * 2 % 2 ^ 32 ≡ 0 = omega arith in
-    ap₂ bit_or e f ∙ or_zero_r v
+    let f : v * 2 ^ 0 % 2 ^ 32 ≡ v = omega arith in
+    ap₂ bit_or e f ∙ or_self v
 
 module _ (a b c d : ℕ) (ha : a < 256) (hb : b < 256) (hc : c < 256) (hd : d < 256) where
-  rot8 : rotr 8 (pack a b c d) ≡ pack d a b c
+  rot8 : turned 8 (pack a b c d) ≡ pack d a b c
   rot8 =
       let e : pack a b c d / 2 ^ 8 ≡ (a * 2 ^ 8 + b) * 2 ^ 8 + c = omega arith in
-      let f : pack a b c d * 2 ^ 23 % 2 ^ 32 * 2 % 2 ^ 32 ≡ d * 2 ^ 24 = omega arith in
+      let f : pack a b c d * 2 ^ 24 % 2 ^ 32 ≡ d * 2 ^ 24 = omega arith in
       ap₂ bit_or e f ∙ or_shifted_r d 24 ((a * 2 ^ 8 + b) * 2 ^ 8 + c) (omega arith) ∙ omega arith
 
-  rot16 : rotr 16 (pack a b c d) ≡ pack c d a b
+  rot16 : turned 16 (pack a b c d) ≡ pack c d a b
   rot16 =
       let e : pack a b c d / 2 ^ 16 ≡ a * 2 ^ 8 + b = omega arith in
-      let f : pack a b c d * 2 ^ 15 % 2 ^ 32 * 2 % 2 ^ 32 ≡ (c * 2 ^ 8 + d) * 2 ^ 16 = omega arith in
+      let f : pack a b c d * 2 ^ 16 % 2 ^ 32 ≡ (c * 2 ^ 8 + d) * 2 ^ 16 = omega arith in
       ap₂ bit_or e f ∙ or_shifted_r (c * 2 ^ 8 + d) 16 (a * 2 ^ 8 + b) (omega arith) ∙ omega arith
 
-  rot24 : rotr 24 (pack a b c d) ≡ pack b c d a
+  rot24 : turned 24 (pack a b c d) ≡ pack b c d a
   rot24 =
       let e : pack a b c d / 2 ^ 24 ≡ a = omega arith in
-      let f : pack a b c d * 2 ^ 7 % 2 ^ 32 * 2 % 2 ^ 32 ≡ ((b * 2 ^ 8 + c) * 2 ^ 8 + d) * 2 ^ 8 = omega arith in
+      let f : pack a b c d * 2 ^ 8 % 2 ^ 32 ≡ ((b * 2 ^ 8 + c) * 2 ^ 8 + d) * 2 ^ 8 = omega arith in
       ap₂ bit_or e f ∙ or_shifted_r ((b * 2 ^ 8 + c) * 2 ^ 8 + d) 8 a (omega arith)
 
   pack0 : byte0 (pack a b c d) ≡ a
@@ -80,7 +84,7 @@ module _ (a b c d : ℕ) (ha : a < 256) (hb : b < 256) (hc : c < 256) (hd : d < 
 
 -- MixColumns as a sum of four columns, each made of one byte and turned to its row
 mix_law : (p q r s : ℕ) → p < 256 → q < 256 → r < 256 → s < 256
-    → bit_xor (bit_xor (bit_xor (spread p) (rotr 8 (spread q))) (rotr 16 (spread r))) (rotr 24 (spread s)) ≡ mix_bytes p q r s
+    → bit_xor (bit_xor (bit_xor (spread p) (turned 8 (spread q))) (turned 16 (spread r))) (turned 24 (spread s)) ≡ mix_bytes p q r s
 unfolding spread mix_bytes
 mix_law p q r s hp hq hr hs =
     let xp = xtime_lt p hp in
@@ -110,10 +114,6 @@ module _ (w x y z : ℕ) where
       (pack2 (sub (byte0 y)) (sub (byte1 y)) (sub (byte2 y)) (sub (byte3 y)) (sub_lt (byte0 y)) (sub_lt (byte1 y)) (sub_lt (byte2 y)) (sub_lt (byte3 y)))
       (pack3 (sub (byte0 z)) (sub (byte1 z)) (sub (byte2 z)) (sub (byte3 z)) (sub_lt (byte0 z)) (sub_lt (byte1 z)) (sub_lt (byte2 z)) (sub_lt (byte3 z)))
 
-  pub last_is : (v k : ℕ) → v ≡ pack (sub (byte0 w)) (sub (byte1 x)) (sub (byte2 y)) (sub (byte3 z)) → bit_xor v k ≡ last_column w x y z k
-  unfolding last_column
-  last_is v k e = ap (λ (u : ℕ). bit_xor u k) (e ∙ sym shift_sub)
-
 -- ---- a column, row after row
 
 spread_lt : (b : ℕ) → b < 256 → spread b < 2 ^ 32
@@ -127,11 +127,11 @@ spread_lt b h = let x = xtime_lt b h in let t = three_lt b h in packed (xtime b)
 unfoldable pub sums : ℕ → List ℕ → ℕ → ℕ
 sums k m zero = k
 sums k m (suc zero) = 0
-sums k m (suc (suc j)) = bit_xor (sums k m j) (rotr (8 * j) (spread (sub (get_or m j 0))))
+sums k m (suc (suc j)) = bit_xor (sums k m j) (turned (8 * j) (spread (sub (get_or m j 0))))
 
-pub sums_more : (k : ℕ) (m : List ℕ) (j e v n : ℕ) → e ≡ sums k m j → v ≡ spread (sub (get_or m j 0)) → n ≡ rotr (8 * j) v → bit_xor e n ≡ sums k m (j + 1 + 1)
+pub sums_more : (k : ℕ) (m : List ℕ) (j e v n : ℕ) → e ≡ sums k m j → v ≡ spread (sub (get_or m j 0)) → n ≡ turned (8 * j) v → bit_xor e n ≡ sums k m (j + 1 + 1)
 unfolding sums
-sums_more k m j e v n p q r = ap₂ bit_xor p (r ∙ ap (rotr (8 * j)) q) ∙ sym (ap (sums k m) (ap (λ (i : ℕ). i + 1) (add-one j) ∙ add-one (suc j)))
+sums_more k m j e v n p q r = ap₂ bit_xor p (r ∙ ap (turned (8 * j)) q) ∙ sym (ap (sums k m) (ap (λ (i : ℕ). i + 1) (add-one j) ∙ add-one (suc j)))
 
 -- the order of the sums
 gathered : (k a b c d : ℕ) → bit_xor (bit_xor (bit_xor k a) c) (bit_xor b d) ≡ bit_xor (bit_xor (bit_xor (bit_xor a b) c) d) k
@@ -153,9 +153,9 @@ module _ (w x y z : ℕ) where
       let q = sub_lt (byte1 x) in
       let r = sub_lt (byte2 y) in
       let s = sub_lt (byte3 z) in
-      gathered k (rotr 0 (spread (sub (byte0 w)))) (rotr 8 (spread (sub (byte1 x)))) (rotr 16 (spread (sub (byte2 y)))) (rotr 24 (spread (sub (byte3 z))))
+      gathered k (turned 0 (spread (sub (byte0 w)))) (turned 8 (spread (sub (byte1 x)))) (turned 16 (spread (sub (byte2 y)))) (turned 24 (spread (sub (byte3 z))))
       ∙ ap (λ (v : ℕ). bit_xor v k)
-      (ap (λ (v : ℕ). bit_xor (bit_xor (bit_xor v (rotr 8 (spread (sub (byte1 x))))) (rotr 16 (spread (sub (byte2 y))))) (rotr 24 (spread (sub (byte3 z))))) (turn_none (spread (sub (byte0 w))) (spread_lt (sub (byte0 w)) p))
+      (ap (λ (v : ℕ). bit_xor (bit_xor (bit_xor v (turned 8 (spread (sub (byte1 x))))) (turned 16 (spread (sub (byte2 y))))) (turned 24 (spread (sub (byte3 z))))) (turn_none (spread (sub (byte0 w))) (spread_lt (sub (byte0 w)) p))
       ∙ mix_law (sub (byte0 w)) (sub (byte1 x)) (sub (byte2 y)) (sub (byte3 z)) p q r s
       ∙ sym (mix_pack (sub (byte0 w)) (sub (byte1 x)) (sub (byte2 y)) (sub (byte3 z)) p q r s)
       ∙ ap mix_column (sym (shift_sub w x y z)))
@@ -167,13 +167,13 @@ module _ (w x y z : ℕ) where
 -- the bytes of a word, substituted one after another
 unfoldable pub subs : List ℕ → ℕ → ℕ
 subs m zero = 0
-subs m (suc j) = subs m j % 2 ^ 24 * 256 + sub (get_or m j 0)
+subs m (suc j) = subs m j * 2 ^ 8 % 2 ^ 32 + sub (get_or m j 0)
 
-pub subs_more : (m : List ℕ) (j v s : ℕ) → v ≡ subs m j → s ≡ sub (get_or m j 0) → v % 2 ^ 24 * 256 + s ≡ subs m (j + 1)
+pub subs_more : (m : List ℕ) (j v s : ℕ) → v ≡ subs m j → s ≡ sub (get_or m j 0) → v * 2 ^ 8 % 2 ^ 32 + s ≡ subs m (j + 1)
 unfolding subs
-subs_more m j v s p q = ap₂ (λ (x y : ℕ). x % 2 ^ 24 * 256 + y) p q ∙ sym (ap (subs m) (add-one j))
+subs_more m j v s p q = ap₂ (λ (x y : ℕ). x * 2 ^ 8 % 2 ^ 32 + y) p q ∙ sym (ap (subs m) (add-one j))
 
-pub subs_fits : (m : List ℕ) (j v s : ℕ) → s ≡ sub (get_or m j 0) → v % 2 ^ 24 * 256 + s < 2 ^ 32
+pub subs_fits : (m : List ℕ) (j v s : ℕ) → s ≡ sub (get_or m j 0) → v * 2 ^ 8 % 2 ^ 32 + s < 2 ^ 32
 subs_fits m j v s q = let h = sub_lt (get_or m j 0) in rw q (omega (arith, h))
 
 module _ (w x y z : ℕ) where
@@ -182,7 +182,7 @@ module _ (w x y z : ℕ) where
   subs_four = four (sub (byte0 w)) (sub (byte1 x)) (sub (byte2 y)) (sub (byte3 z)) (sub_lt (byte0 w)) (sub_lt (byte1 x)) (sub_lt (byte2 y)) (sub_lt (byte3 z))
     where
       four : (p q r s : ℕ) → p < 256 → q < 256 → r < 256 → s < 256
-          → (((0 % 2 ^ 24 * 256 + p) % 2 ^ 24 * 256 + q) % 2 ^ 24 * 256 + r) % 2 ^ 24 * 256 + s ≡ pack p q r s
+          → (((0 * 2 ^ 8 % 2 ^ 32 + p) * 2 ^ 8 % 2 ^ 32 + q) * 2 ^ 8 % 2 ^ 32 + r) * 2 ^ 8 % 2 ^ 32 + s ≡ pack p q r s
       four p q r s hp hq hr hs = omega arith
 
   pub substituted_is : (m : List ℕ) (j v : ℕ) → m ≡ taken w x y z → j ≡ 4 → v ≡ subs m j → v ≡ pack (sub (byte0 w)) (sub (byte1 x)) (sub (byte2 y)) (sub (byte3 z))
@@ -195,11 +195,29 @@ pub key_word : (b : List ℕ) (i : ℕ) → i < 44 → word_of b i ≡ get_or (k
 unfolding key_words
 key_word b i h = sym (values_at (word_of b) 44 i h)
 
-pub key_xor : (b : List ℕ) (i s u : ℕ) → i < 44 → u ≡ word_of b i → bit_xor s u ≡ bit_xor s (get_or (key_words b) i 0)
-key_xor b i s u h e = ap (bit_xor s) (e ∙ key_word b i h)
+-- the bytes of an expanded key from 16 i on, added as a state
+pub key_added : (b : List ℕ) (i : ℕ) (s u r : Block) → 4 * i + 3 < 44 → u ≡ block_at b (16 * i)
+    → r ≡ state (bit_xor s.w0 u.w0) (bit_xor s.w1 u.w1) (bit_xor s.w2 u.w2) (bit_xor s.w3 u.w3) → r ≡ add_round_key (key_words b) i s
+unfolding add_round_key
+key_added b i s u r h eu er =
+    er ∙ ap (λ (x : Block). state (bit_xor s.w0 x.w0) (bit_xor s.w1 x.w1) (bit_xor s.w2 x.w2) (bit_xor s.w3 x.w3)) eu
+    ∙ same (ap (bit_xor s.w0) (word 0 (16 * i) (4 * i) (omega arith) (omega arith) (omega arith))) (ap (bit_xor s.w1) (word 1 (16 * i + 4) (4 * i + 1) (omega arith) refl (omega arith))) (ap (bit_xor s.w2) (word 2 (16 * i + 8) (4 * i + 2) (omega arith) refl (omega arith))) (ap (bit_xor s.w3) (word 3 (16 * i + 12) (4 * i + 3) (omega arith) refl (omega arith)))
+  where
+    word : (j p n : ℕ) → p ≡ 4 * n → n ≡ 4 * i + j → j ≤ 3 → number_at 4 b p ≡ get_or (key_words b) n 0
+    word j p n e f k = ap (number_at 4 b) e ∙ key_word b n (omega arith)
 
-pub last_word : (b : List ℕ) (i w x y z u r : ℕ) → i < 44 → u ≡ word_of b i → r ≡ last_column w x y z u → r ≡ last_column w x y z (get_or (key_words b) i 0)
-last_word b i w x y z u r h e f = f ∙ ap (last_column w x y z) (e ∙ key_word b i h)
+pub last_is : (b : List ℕ) (s u r : Block) (v0 v1 v2 v3 : ℕ)
+    → v0 ≡ pack (sub (byte0 s.w0)) (sub (byte1 s.w1)) (sub (byte2 s.w2)) (sub (byte3 s.w3))
+    → v1 ≡ pack (sub (byte0 s.w1)) (sub (byte1 s.w2)) (sub (byte2 s.w3)) (sub (byte3 s.w0))
+    → v2 ≡ pack (sub (byte0 s.w2)) (sub (byte1 s.w3)) (sub (byte2 s.w0)) (sub (byte3 s.w1))
+    → v3 ≡ pack (sub (byte0 s.w3)) (sub (byte1 s.w0)) (sub (byte2 s.w1)) (sub (byte3 s.w2))
+    → u ≡ block_at b 160 → r ≡ state (bit_xor v0 u.w0) (bit_xor v1 u.w1) (bit_xor v2 u.w2) (bit_xor v3 u.w3) → r ≡ last_round (key_words b) s
+unfolding last_round shift_rows sub_bytes
+last_is b s u r v0 v1 v2 v3 e0 e1 e2 e3 eu er =
+    key_added b 10 (shift_rows (sub_bytes s)) u r (omega arith) eu
+    (er
+    ∙ ap (λ (x : Block). state (bit_xor x.w0 u.w0) (bit_xor x.w1 u.w1) (bit_xor x.w2 u.w2) (bit_xor x.w3 u.w3))
+    (same (e0 ∙ sym (shift_sub s.w0 s.w1 s.w2 s.w3)) (e1 ∙ sym (shift_sub s.w1 s.w2 s.w3 s.w0)) (e2 ∙ sym (shift_sub s.w2 s.w3 s.w0 s.w1)) (e3 ∙ sym (shift_sub s.w3 s.w0 s.w1 s.w2))))
 
 -- the columns of s, turned j times; and the columns of round i that are made, behind what is left of s
 unfoldable pub turns : Block → ℕ → Block
@@ -227,24 +245,29 @@ four_made w i s = ap (λ (n : ℕ). state (column s.w0 s.w1 s.w2 s.w3 (get_or w 
 pub round_made : (w : List ℕ) (i j : ℕ) (s b : Block) → j ≡ 4 → b ≡ made w i s j → b ≡ round w i s
 round_made w i j s b ej eb = eb ∙ ap (made w i s) ej ∙ four_made w i s
 
-pub more_rounds : (w : List ℕ) (s x : Block) (n : ℕ) → x ≡ rounds w n s → round w (n + 1) x ≡ rounds w (n + 1) s
+pub more_rounds : (w : List ℕ) (s x r : Block) (i : ℕ) → 1 ≤ i → x ≡ rounds w (i - 1) s → r ≡ round w i x → r ≡ rounds w (i + 1 - 1) s
 unfolding rounds
-more_rounds w s x n e = ap₂ (λ (i : ℕ) (y : Block). round w i y) (add-one n) e ∙ sym (ap (λ (i : ℕ). rounds w i s) (add-one n))
+more_rounds w s x r i h ex er =
+    let n : i ≡ suc (i - 1) = omega arith in
+    let m : i + 1 - 1 ≡ suc (i - 1) = omega arith in
+    er ∙ ap₂ (round w) n ex ∙ sym (ap (λ (j : ℕ). rounds w j s) m)
 
-pub cipher_is : (w : List ℕ) (s y x r : Block) (n : ℕ) → y ≡ add_round_key w 0 s → x ≡ rounds w n y → n ≡ 9 → r ≡ last_round w x → r ≡ cipher w s
+pub cipher_is : (w : List ℕ) (s y x r : Block) (i : ℕ) → y ≡ add_round_key w 0 s → x ≡ rounds w (i - 1) y → i ≡ 10 → r ≡ last_round w x → r ≡ cipher w s
 unfolding cipher
-cipher_is w s y x r n ey ex en er = er ∙ ap (last_round w) (ex ∙ ap₂ (λ (i : ℕ) (b : Block). rounds w i b) en ey)
+cipher_is w s y x r i ey ex en er = er ∙ ap (last_round w) (ex ∙ ap₂ (λ (j : ℕ) (b : Block). rounds w (j - 1) b) en ey)
 
 -- ---- the key schedule
 
-pub rotated_is : (v : ℕ) → v < 2 ^ 32 → v % 16777216 * 256 + v / 16777216 ≡ rot_word v
+rotated_is : (v : ℕ) → v < 2 ^ 32 → rotate_left w32 v 8 ≡ rot_word v
 rotated_is v h =
+    let e : v * 2 ^ 8 % 2 ^ 32 ≡ v % 2 ^ 24 * 2 ^ 8 = omega arith in
     let e1 : v / 65536 ≡ v / 16777216 * 256 + v / 65536 % 256 = omega arith in
     let e2 : v / 256 ≡ v / 65536 * 256 + v / 256 % 256 = omega arith in
     let e3 : v ≡ v / 256 * 256 + v % 256 = omega arith in
     let e4 : v ≡ v / 16777216 * 16777216 + v % 16777216 = omega arith in
     let e5 : v / 16777216 % 256 ≡ v / 16777216 = omega arith in
-    ap (λ (x : ℕ). x * 256 + v / 16777216) (low e1 e2 e3 e4) ∙ ap (λ (x : ℕ). ((v / 65536 % 256 * 256 + v / 256 % 256) * 256 + v % 256) * 256 + x) (sym e5)
+    ap (λ (x : ℕ). bit_or x (v / 2 ^ 24)) e ∙ or_shifted (v % 2 ^ 24) 8 (v / 2 ^ 24) (omega arith)
+    ∙ ap (λ (x : ℕ). x * 256 + v / 16777216) (low e1 e2 e3 e4) ∙ ap (λ (x : ℕ). ((v / 65536 % 256 * 256 + v / 256 % 256) * 256 + v % 256) * 256 + x) (sym e5)
   where
     low : v / 65536 ≡ v / 16777216 * 256 + v / 65536 % 256 → v / 256 ≡ v / 65536 * 256 + v / 256 % 256 → v ≡ v / 256 * 256 + v % 256 → v ≡ v / 16777216 * 16777216 + v % 16777216
         → v % 16777216 ≡ (v / 65536 % 256 * 256 + v / 256 % 256) * 256 + v % 256
@@ -255,10 +278,10 @@ module _ (u v j : ℕ) where
   abbrev chosen : Bool → ℕ
   chosen b = bit_xor u (pick b (bit_xor (sub_word (rot_word v)) (rcon (j / 4))) v)
 
-  pub next_sub : (w s r : ℕ) → j % 4 ≡ 0 → w ≡ rot_word v → s ≡ pack (sub (byte0 w)) (sub (byte1 w)) (sub (byte2 w)) (sub (byte3 w)) → r ≡ rcon (j / 4)
+  pub next_sub : (w s r : ℕ) → v < 2 ^ 32 → j % 4 ≡ 0 → w ≡ rotate_left w32 v 8 → s ≡ pack (sub (byte0 w)) (sub (byte1 w)) (sub (byte2 w)) (sub (byte3 w)) → r ≡ rcon (j / 4)
       → bit_xor u (bit_xor s r) ≡ next_of u v j
   unfolding next_of sub_word
-  next_sub w s r h ew es er = ap (bit_xor u) (ap₂ bit_xor (es ∙ ap sub_word ew) er) ∙ sym (ap chosen (eq-eqb (j % 4) 0 h))
+  next_sub w s r b h ew es er = ap (bit_xor u) (ap₂ bit_xor (es ∙ ap sub_word (ew ∙ rotated_is v b)) er) ∙ sym (ap chosen (eq-eqb (j % 4) 0 h))
 
   pub next_plain : (j % 4 ≡ 0 → ⊥) → bit_xor u v ≡ next_of u v j
   unfolding next_of
@@ -323,12 +346,12 @@ pub encrypted_is : (bytes block r : List ℕ) (s e : Block) → s ≡ block_at b
 unfolding encrypted
 encrypted_is bytes block r s e es ee er = er ∙ ap block_bytes (ee ∙ ap (cipher (key_words bytes)) es)
 
--- four words, each put behind the one before
 -- as many bytes as there are put in the place of all
 put_all : (d v : List ℕ) → length d ≡ length v → splice d 0 v ≡ v
 unfolding splice
 put_all d v e = ap (λ (x : List ℕ). v ++ x) (drop_of_length-le d {i = 0 + length v} (omega (arith, e))) ∙ append-nil v
 
+-- four words, each put behind the one before
 pub block_put : (s : Block) (d m n o r : List ℕ) → length d ≡ 16 → m ≡ splice d 0 (bytes_of 4 s.w0) → n ≡ splice m 4 (bytes_of 4 s.w1) → o ≡ splice n 8 (bytes_of 4 s.w2)
     → r ≡ splice o 12 (bytes_of 4 s.w3) → r ≡ block_bytes s
 unfolding block_bytes

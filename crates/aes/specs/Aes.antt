@@ -1,8 +1,8 @@
 -- FIPS 197, section 5: AES-128, in the order of the document. A word is a number below 2 ^ 32 whose highest byte is the
 -- word's first, a0. The state is its four columns as words, as section 3.5 has it: w0 is the first column, and row r is
 -- byte r of each. The words w of the key schedule are a list; the expanded key is their bytes, word i at 4 i. Assumes nothing.
-use Rattle.std.specs.Prelude.{List, ◌++◌, ℕ, zero, suc, ◌+◌, ◌-◌, ◌*◌, ◌/◌, ◌%◌, ◌^◌, eqb, get_or}
-use Rattle.std.specs.Int.Bits.{bit_xor, bit_or}
+use Rattle.std.specs.Prelude.{List, ◌++◌, ℕ, zero, suc, ◌+◌, ◌*◌, ◌/◌, ◌%◌, ◌^◌, eqb, get_or}
+use Rattle.std.specs.Int.Bits.{bit_xor}
 use Rattle.words.specs.Choice.{pick}
 use Rattle.words.specs.Numbers.{number_at, bytes_of}
 use Rattle.sbox.specs.Field.{xtime, three, sub, values_of}
@@ -128,16 +128,9 @@ block_bytes s = bytes_of 4 s.w0 ++ bytes_of 4 s.w1 ++ bytes_of 4 s.w2 ++ bytes_o
 unfoldable pub encrypted : List ℕ → List ℕ → List ℕ
 encrypted bytes block = block_bytes (cipher (key_words bytes) (block_at block 0))
 
--- A column of a round, and of the last one, from the columns that ShiftRows takes its rows from, under key word k.
+-- A column of a round, from the columns that ShiftRows takes its rows from, under key word k.
 unfoldable pub column : ℕ → ℕ → ℕ → ℕ → ℕ → ℕ
 column w x y z k = bit_xor (mix_column (shifted (sub_word w) (sub_word x) (sub_word y) (sub_word z))) k
-
-unfoldable pub last_column : ℕ → ℕ → ℕ → ℕ → ℕ → ℕ
-last_column w x y z k = bit_xor (shifted (sub_word w) (sub_word x) (sub_word y) (sub_word z)) k
-
--- A word turned n bits to the right, n below 32, as the code turns it.
-abbrev pub rotr : ℕ → ℕ → ℕ
-rotr n x = bit_or (x / 2 ^ n) (x * 2 ^ (31 - n) % 2 ^ 32 * 2 % 2 ^ 32)
 
 -- The columns of a state from the second on, and one behind them.
 abbrev pub push : Block → ℕ → Block

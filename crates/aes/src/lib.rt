@@ -1,15 +1,17 @@
-// AES-128 (FIPS 197): the key expansion, made once for a key, and the cipher on one block.
-// Rounds go by one table that joins SubBytes and MixColumns (crate sbox), and read the bytes of the expanded key as they need them.
-// Promises upward: the expansion and the cipher are the standard's, for any key, any block and any 176 bytes.
+//! AES-128 (FIPS 197): the key expansion, made once for a key, and the cipher on one block.
+//! Rounds go by one table that joins SubBytes and MixColumns (crate sbox), and read the bytes of the expanded key as they need them.
+//! Promises upward: the expansion and the cipher are the standard's, for any key, any block and any 176 bytes.
 #![tactic(auto)]
 
-ghost use Rattle.std.specs.Prelude.{◌≡◌, [], ◌∷◌, ◌+◌, ◌≤◌, ◌<◌, length};
+ghost use Rattle.std.specs.Prelude.{◌≡◌, [], ◌∷◌, ◌+◌, ◌≤◌, ◌<◌, bit_xor, length};
 ghost use Rattle.words.specs.Numbers.{number_at};
 ghost use Rattle.sbox.specs.Field.{sub};
 ghost use Rattle.sbox.specs.Columns.{pack};
-ghost use Rattle.aes.specs.Aes.{byte0, byte1, byte2, byte3, column, last_column, add_round_key, round, last_round, cipher, rot_word, rcon, rotr, push, next_of, expansion, key_words, block_at, block_bytes, encrypted};
+ghost use Rattle.aes.specs.Aes.{byte0, byte1, byte2, byte3, column, state, round, last_round, cipher, rcon, push, next_of, expansion, key_words, block_at, block_bytes, encrypted};
 
-// Of a key, of a block, and of a key's expansion.
+use std::ops::BitXor;
+
+/// Of a key, of a block, and of a key's expansion.
 pub const KEY_BYTES: usize = 16;
 
 pub const BLOCK_BYTES: usize = 16;
@@ -19,16 +21,16 @@ pub const EXPANDED_BYTES: usize = 176;
 // Words of the expansion after the key's own.
 const NEW_WORDS: usize = 40;
 
-// Rounds with all four steps; one without MixColumns follows.
-const FULL_ROUNDS: usize = 9;
+// The round without MixColumns. Those before it have all four steps.
+const LAST_ROUND: usize = 10;
 
 // Of the state.
 const ROWS: usize = 4;
 
 const COLUMNS: usize = 4;
 
-// The state: its four columns as words, row 0 in the highest byte.
-#[derive(Clone, Copy)]
+/// The state: its four columns as words, row 0 in the highest byte.
+#[derive(Clone, Copy, Debug, PartialEq, Eq)]
 pub struct Block {
     pub w0: u32,
     pub w1: u32,
@@ -36,7 +38,43 @@ pub struct Block {
     pub w3: u32,
 }
 
-// An expanded key: 44 words, high byte first.
+impl Block {
+    pub const ZERO: Self = Self {
+        w0: 0,
+        w1: 0,
+        w2: 0,
+        w3: 0,
+    };
+
+    // The columns from the second on, and v behind them.
+    fn pushed(self, v: u32) -> Self
+        ensures { result ≡ push self v }
+    {
+        Self {
+            w0: self.w1,
+            w1: self.w2,
+            w2: self.w3,
+            w3: v,
+        }
+    }
+}
+
+impl BitXor for Block {
+    type Output = Self;
+
+    ghost bitxor_gives = { λ s t r. r ≡ state (bit_xor s.w0 t.w0) (bit_xor s.w1 t.w1) (bit_xor s.w2 t.w2) (bit_xor s.w3 t.w3) };
+
+    fn bitxor(self, other: Self) -> Self {
+        Self {
+            w0: self.w0 ^ other.w0,
+            w1: self.w1 ^ other.w1,
+            w2: self.w2 ^ other.w2,
+            w3: self.w3 ^ other.w3,
+        }
+    }
+}
+
+/// An expanded key: 44 words, high byte first.
 #[derive(Clone, Copy)]
 pub struct Expanded {
     pub bytes: [u8; EXPANDED_BYTES],
@@ -46,20 +84,11 @@ pub struct Expanded {
 fn rows(w: u32, x: u32, y: u32, z: u32) -> [u8; ROWS]
     ensures { result ≡ byte0 w ∷ byte1 x ∷ byte2 y ∷ byte3 z ∷ [] }
 {
-    [
-        ((w >> 24) % 256) as u8,
-        ((x >> 16) % 256) as u8,
-        ((y >> 8) % 256) as u8,
-        (z % 256) as u8,
-    ]
-}
-
-// v turned n bits to the right. Inner.
-fn turned(v: u32, n: usize) -> u32
-    requires { n < 32 }
-    ensures { result ≡ rotr n v }
-{
-    v >> n | v << (31 - n) << 1
+    let [a, ..] = w.to_be_bytes();
+    let [_, b, ..] = x.to_be_bytes();
+    let [_, _, c, _] = y.to_be_bytes();
+    let [.., d] = z.to_be_bytes();
+    [a, b, c, d]
 }
 
 // One column after SubBytes, ShiftRows, MixColumns and AddRoundKey. The terms go to two sums in turn, which are worked side by side.
@@ -68,13 +97,11 @@ fn mixed(w: u32, x: u32, y: u32, z: u32, k: u32) -> u32
 {
     let m = rows(w, x, y, z);
     let mut e = k;
-    let mut f: u32 = 0;
-    let mut j: usize = 0;
-    while j < ROWS {
-        let n = e ^ turned(sbox::spread_at(m[j]), 8 * j);
+    let mut f = 0;
+    for j in 0..ROWS {
+        let n = e ^ sbox::spread_at(m[j]).rotate_right(8 * j as u32);
         e = f;
         f = n;
-        j += 1;
     }
     e ^ f
 }
@@ -83,33 +110,11 @@ fn mixed(w: u32, x: u32, y: u32, z: u32, k: u32) -> u32
 fn substituted(w: u32, x: u32, y: u32, z: u32) -> u32
     ensures { result ≡ pack (sub (byte0 w)) (sub (byte1 x)) (sub (byte2 y)) (sub (byte3 z)) }
 {
-    let m = rows(w, x, y, z);
-    let mut v: u32 = 0;
-    let mut j: usize = 0;
-    while j < ROWS {
-        v = v % 16777216 * 256 + sbox::sub_at(m[j]);
-        j += 1;
+    let mut v = 0;
+    for b in rows(w, x, y, z) {
+        v = (v << 8) + sbox::sub_at(b);
     }
     v
-}
-
-// One column of the last round.
-fn last_column(w: u32, x: u32, y: u32, z: u32, k: u32) -> u32
-    ensures { result ≡ last_column w x y z k }
-{
-    substituted(w, x, y, z) ^ k
-}
-
-// The columns of s from the second on, and v behind them.
-fn pushed(s: Block, v: u32) -> Block
-    ensures { result ≡ push s v }
-{
-    Block {
-        w0: s.w1,
-        w1: s.w2,
-        w2: s.w3,
-        w3: v,
-    }
 }
 
 // Round i, under the bytes of an expanded key: the columns go by in a loop, so that one place looks up the table. Inner.
@@ -119,12 +124,9 @@ fn one_round(k: &[u8; EXPANDED_BYTES], i: usize, s: Block) -> Block
 {
     let mut a = s;
     let mut b = s;
-    let mut j: usize = 0;
-    while j < COLUMNS {
-        let v = mixed(a.w0, a.w1, a.w2, a.w3, load(k, 4 * (4 * i + j)));
-        b = pushed(b, v);
-        a = pushed(a, a.w0);
-        j += 1;
+    for j in 0..COLUMNS {
+        b = b.pushed(mixed(a.w0, a.w1, a.w2, a.w3, load(k, 4 * (4 * i + j))));
+        a = a.pushed(a.w0);
     }
     b
 }
@@ -133,34 +135,22 @@ fn one_round(k: &[u8; EXPANDED_BYTES], i: usize, s: Block) -> Block
 fn last_round(k: &[u8; EXPANDED_BYTES], s: Block) -> Block
     ensures { result ≡ last_round (key_words k.now) s }
 {
-    Block {
-        w0: last_column(s.w0, s.w1, s.w2, s.w3, load(k, 160)),
-        w1: last_column(s.w1, s.w2, s.w3, s.w0, load(k, 164)),
-        w2: last_column(s.w2, s.w3, s.w0, s.w1, load(k, 168)),
-        w3: last_column(s.w3, s.w0, s.w1, s.w2, load(k, 172)),
-    }
+    let t = Block {
+        w0: substituted(s.w0, s.w1, s.w2, s.w3),
+        w1: substituted(s.w1, s.w2, s.w3, s.w0),
+        w2: substituted(s.w2, s.w3, s.w0, s.w1),
+        w3: substituted(s.w3, s.w0, s.w1, s.w2),
+    };
+    t ^ block_at(k, BLOCK_BYTES * LAST_ROUND)
 }
 
-fn first_key_added(k: &[u8; EXPANDED_BYTES], s: Block) -> Block
-    ensures { result ≡ add_round_key (key_words k.now) 0 s }
-{
-    Block {
-        w0: s.w0 ^ load(k, 0),
-        w1: s.w1 ^ load(k, 4),
-        w2: s.w2 ^ load(k, 8),
-        w3: s.w3 ^ load(k, 12),
-    }
-}
-
-// One block under the bytes of an expanded key. Its words are read where they are needed: to turn their bytes costs less than a copy.
+/// One block under the bytes of an expanded key. Its words are read where they are needed: to turn their bytes costs less than a copy.
 pub fn encrypt_block(k: &[u8; EXPANDED_BYTES], s: Block) -> Block
     ensures { result ≡ cipher (key_words k.now) s }
 {
-    let mut x = first_key_added(k, s);
-    let mut n: usize = 0;
-    while n < FULL_ROUNDS {
-        n += 1;
-        x = one_round(k, n, x);
+    let mut x = s ^ block_at(k, 0);
+    for i in 1..LAST_ROUND {
+        x = one_round(k, i, x);
     }
     last_round(k, x)
 }
@@ -170,10 +160,11 @@ fn load(b: &[u8], at: usize) -> u32
     requires { at + 4 ≤ length b.now }
     ensures { result ≡ number_at 4 b.now at }
 {
-    words::quad_at(b, at) as u32
+    words::read_number::<4>(b, at) as u32
 }
 
 // The first byte of the round constant, and zeros. Inner.
+#[tactic(auto, unfolding(crate::specs::Aes::power, sbox::specs::Field::xtime))]
 fn round_constant(i: usize) -> u32
     requires { i < 10 }
     ensures { result ≡ rcon i }
@@ -192,43 +183,35 @@ fn round_constant(i: usize) -> u32
     }
 }
 
-fn rotated(v: u32) -> u32
-    ensures { result ≡ rot_word v }
-{
-    v % 16777216 * 256 + v / 16777216
-}
-
 // Word j + 4 of the key schedule, from words j and j + 3. Inner.
 fn next_word(u: u32, v: u32, j: usize) -> u32
     requires { j < 40 }
     ensures { result ≡ next_of u v j }
 {
     if j % 4 == 0 {
-        let w = rotated(v);
+        let w = v.rotate_left(8);
         u ^ (substituted(w, w, w, w) ^ round_constant(j / 4))
     } else {
         u ^ v
     }
 }
 
-// The expansion of a key. The last four words are kept in s: bytes just written are slow to read back as a word.
+/// The expansion of a key. The last four words are kept in s: bytes just written are slow to read back as a word.
 pub fn expand(key: &[u8; KEY_BYTES]) -> Expanded
     ensures { result.bytes ≡ expansion key.now }
 {
     let mut b = [0u8; EXPANDED_BYTES];
     words::put_bytes(&mut b, 0, key);
     let mut s = block_at(key, 0);
-    let mut j: usize = 0;
-    while j < NEW_WORDS {
+    for j in 0..NEW_WORDS {
         let w = next_word(s.w0, s.w3, j);
-        words::put_quad(&mut b, 16 + 4 * j, w as u64);
-        s = pushed(s, w);
-        j += 1;
+        words::put_number::<4>(&mut b, KEY_BYTES + 4 * j, u64::from(w));
+        s = s.pushed(w);
     }
     Expanded { bytes: b }
 }
 
-// The sixteen bytes of m from at on, as a state. Inner.
+/// The sixteen bytes of m from at on, as a state. Inner.
 pub fn block_at(m: &[u8], at: usize) -> Block
     requires { at + 16 ≤ length m.now }
     ensures { result ≡ block_at m.now at }
@@ -241,29 +224,22 @@ pub fn block_at(m: &[u8], at: usize) -> Block
     }
 }
 
-// A state as sixteen bytes.
+/// A state as sixteen bytes.
 pub fn block_bytes(s: Block) -> [u8; BLOCK_BYTES]
     ensures { result ≡ block_bytes s }
 {
     let mut b = [0u8; BLOCK_BYTES];
-    words::put_quad(&mut b, 0, s.w0 as u64);
-    words::put_quad(&mut b, 4, s.w1 as u64);
-    words::put_quad(&mut b, 8, s.w2 as u64);
-    words::put_quad(&mut b, 12, s.w3 as u64);
+    words::put_number::<4>(&mut b, 0, u64::from(s.w0));
+    words::put_number::<4>(&mut b, 4, u64::from(s.w1));
+    words::put_number::<4>(&mut b, 8, u64::from(s.w2));
+    words::put_number::<4>(&mut b, 12, u64::from(s.w3));
     b
 }
 
-// One block under an expanded key that is lent.
+/// One block under an expanded key that is lent.
+#[tactic(auto, unfolding(crate::specs::Aes::encrypted))]
 pub fn encrypt_under(key: &[u8; EXPANDED_BYTES], block: &[u8; BLOCK_BYTES]) -> [u8; BLOCK_BYTES]
     ensures { result ≡ encrypted key.now block.now }
 {
     block_bytes(encrypt_block(key, block_at(block, 0)))
-}
-
-// One block under an expanded key.
-pub fn encrypt(key: Expanded, block: &[u8; BLOCK_BYTES]) -> [u8; BLOCK_BYTES]
-    ensures { result ≡ encrypted key.bytes block.now }
-{
-    let b = key.bytes;
-    encrypt_under(&b, block)
 }

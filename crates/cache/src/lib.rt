@@ -1,5 +1,5 @@
-// The cache as slots: whether its length and its slots are as said, and whether a key is held.
-// Promises upward: 28 and the cache's part of 1 are decided, and a slot that is written leaves every other as it was.
+//! The cache as slots: whether its length and its slots are as said, and whether a key is held.
+//! Promises upward: 28 and the cache's part of 1 are decided, and a slot that is written leaves every other as it was.
 #![tactic(auto)]
 
 ghost use Rattle.std.specs.Prelude.{◌≡◌, ◌+◌, ◌*◌, ◌/◌, ◌≤◌, ◌<◌, length};
@@ -9,9 +9,9 @@ ghost use Rattle.cache.specs.Caches.{well_length, slot_has, held, well_record, w
 use key::Key;
 use slot::{SLOT_BYTES, Slot};
 use value::Value;
-use words::{and, word_at};
+use words::read_number;
 
-// The fewest slots of a cache, and the most.
+/// The fewest slots of a cache, and the most.
 pub const FEWEST_SLOTS: usize = 2;
 
 pub const MOST_SLOTS: usize = 64;
@@ -19,27 +19,22 @@ pub const MOST_SLOTS: usize = 64;
 // Where the first word of a slot's key stands in it.
 const SLOT_WORD: usize = 3;
 
-// 28: whether the length is that of 2 to 64 slots.
+/// 28: whether the length is that of 2 to 64 slots.
+#[tactic(auto, unfolding(crate::specs::Caches::well_length))]
 pub fn well_length(cache: &[u8]) -> bool
     ensures { result ≡ well_length cache.now }
 {
     let n = cache.len();
-    let some = FEWEST_SLOTS * SLOT_BYTES <= n;
-    let few = n <= MOST_SLOTS * SLOT_BYTES;
-    and(and(some, few), n % SLOT_BYTES == 0)
+    FEWEST_SLOTS * SLOT_BYTES <= n && n <= MOST_SLOTS * SLOT_BYTES && n % SLOT_BYTES == 0
 }
 
+#[tactic(auto, unfolding(key::specs::Keys::key_eq))]
 fn has(s: Slot, k: Key) -> bool
     ensures { result ≡ slot_has s k }
 {
     match s {
-        Slot::Free => false,
-        Slot::Bad => false,
-        Slot::Full {
-            origin: _,
-            key: j,
-            value: _,
-        } => j.same(k),
+        Slot::Free | Slot::Bad => false,
+        Slot::Full { key, .. } => key == k,
     }
 }
 
@@ -48,45 +43,29 @@ fn holds(p: &[u8], k: Key) -> bool
     requires { length p.now ≡ slot_length }
     ensures { result ≡ slot_has (slot_at p.now) k }
 {
-    if word_at(p, SLOT_WORD) != k.w0 {
-        return false;
-    }
-    has(slot::read_slot(p), k)
+    read_number::<8>(p, SLOT_WORD) == k.w0 && has(slot::read_slot(p), k)
 }
 
-// Whether a slot of the cache holds a key.
+/// Whether a slot of the cache holds a key.
 pub fn held(cache: &[u8], k: Key) -> bool
     ensures { result ≡ held cache.now k }
 {
-    let n = cache.len() / SLOT_BYTES;
-    let mut i = 0;
-    while i < n {
-        if holds(&cache[i * SLOT_BYTES..i * SLOT_BYTES + SLOT_BYTES], k) {
-            return true;
-        }
-        i += 1;
-    }
-    false
+    cache.chunks_exact(SLOT_BYTES).any(|p| holds(p, k))
 }
 
 // A record in slot i: its kind fits its key, no slot before holds the key, and slot 0 is the root's. Inner.
+#[tactic(auto, unfolding(crate::specs::Caches::well_record, key::specs::Keys::key_eq))]
 fn well_record(cache: &[u8], i: usize, o: u8, k: Key, v: Value) -> bool
     requires { (i + 1) * slot_length ≤ length cache.now }
     ensures { result ≡ well_record cache.now i o k v }
 {
-    if tree::fits(k, v) {
-        if held(&cache[0..i * SLOT_BYTES], k) {
-            return false;
-        }
-        if i == 0 {
-            return and(o == slot::ORIGIN_TREE, k.same(Key::root()));
-        }
-        return true;
-    }
-    false
+    tree::fits(k, v)
+        && !held(&cache[..i * SLOT_BYTES], k)
+        && (i != 0 || o == slot::ORIGIN_TREE && k == Key::ROOT)
 }
 
 // Inner.
+#[tactic(auto, unfolding(crate::specs::Caches::well_at))]
 fn well_at(cache: &[u8], i: usize) -> bool
     requires { (i + 1) * slot_length ≤ length cache.now }
     ensures { result ≡ well_at cache.now i }
@@ -94,26 +73,13 @@ fn well_at(cache: &[u8], i: usize) -> bool
     match slot::slot_of(cache, i) {
         Slot::Free => 0 < i,
         Slot::Bad => false,
-        Slot::Full {
-            origin: o,
-            key: k,
-            value: v,
-        } => well_record(cache, i, o, k, v),
+        Slot::Full { origin, key, value } => well_record(cache, i, origin, key, value),
     }
 }
 
-// The cache's part of 1: whether every slot is as said, slot 0 the root's, no key twice.
+/// The cache's part of 1: whether every slot is as said, slot 0 the root's, no key twice.
 pub fn well_cache(cache: &[u8]) -> bool
     ensures { result ≡ well_cache cache.now }
 {
-    let n = cache.len() / SLOT_BYTES;
-    let mut i = 0;
-    while i < n {
-        if well_at(cache, i) {
-            i += 1;
-        } else {
-            return false;
-        }
-    }
-    true
+    (0..cache.len() / SLOT_BYTES).all(|i| well_at(cache, i))
 }

@@ -1,23 +1,10 @@
--- Laws of the tag as bytes and as words, and of the tag call. Assumes nothing.
+-- Laws of the tag as bytes and as words. Assumes nothing.
 use mathlib.Core.Path.{◌≡◌, refl, ap, ap₂, sym, ◌∙◌}
-use mathlib.Core.Bool.{Bool, true}
 use mathlib.Core.List.{List, [], ◌++◌, append_assoc, append-nil}
-use Prim.Native.Nat.{ℕ, ◌+◌, ◌*◌, ◌^◌, ◌≤◌, ◌<◌}
-use borrow.Author.Tests.{lt-ltb, le-ltb}
+use Prim.Native.Nat.{ℕ, ◌+◌, ◌*◌, ◌^◌, ◌<◌}
 use lib.ListN.{length, length-append}
 use Rattle.words.proofs.Laws.{bytes_length, number_back, number_behind, number_split}
-use Rattle.words.specs.Choice.{pick}
-use Rattle.words.specs.Numbers.{number_at, bytes_of, zeros}
-use Rattle.verdict.specs.Verdicts.{accepted, too_long, longest}
-use Rattle.aes.specs.Aes.{expansion, key_words, block_bytes}
-use Rattle.aes.specs.declared.Block.{Block}
-use Rattle.cmac.specs.Cmac.{mac_block, cmac}
-use Rattle.cmac.specs.Tags.{tag_with, tag_of}
-use Rattle.cmac.specs.declared.TagAnswer.{TagAnswer}
-
-pub cmac_is : (bytes m : List ℕ) (e : Block) → e ≡ mac_block (key_words bytes) m → block_bytes e ≡ cmac bytes m
-unfolding cmac
-cmac_is bytes m e ee = ap block_bytes ee
+use Rattle.words.specs.Numbers.{number_at, bytes_of}
 
 -- ---- a block as two words
 
@@ -44,21 +31,3 @@ module _ (a b c d : ℕ) (ha : a < 2 ^ 32) (hb : b < 2 ^ 32) (hc : c < 2 ^ 32) (
     where
       eight : length (bytes_of 4 a ++ bytes_of 4 b) ≡ 8
       eight = simp (length-append, bytes_length)
-
--- ---- the tag call
-
-module _ (bytes m : List ℕ) where
-  abbrev answer : Bool → TagAnswer
-  answer b = pick b (record { verdict = too_long; bytes = zeros 16 }) (record { verdict = accepted; bytes = cmac bytes m })
-
-  pub tag_refused : longest < length m → answer true ≡ tag_with bytes m
-  unfolding tag_with
-  tag_refused h = sym (ap answer (lt-ltb longest (length m) h))
-
-  pub tag_given : (t : List ℕ) → length m ≤ longest → t ≡ cmac bytes m → record { verdict = accepted; bytes = t } ≡ tag_with bytes m
-  unfolding tag_with
-  tag_given t h e = ap (λ (x : List ℕ). record { verdict = accepted; bytes = x }) e ∙ sym (ap answer (le-ltb longest (length m) h))
-
-pub tag_of_is : (key bytes m : List ℕ) (r : TagAnswer) → bytes ≡ expansion key → r ≡ tag_with bytes m → r ≡ tag_of key m
-unfolding tag_of
-tag_of_is key bytes m r e p = p ∙ ap (λ (x : List ℕ). tag_with x m) e

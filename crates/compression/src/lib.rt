@@ -1,13 +1,12 @@
-// SHA-256's compression (FIPS 180-4, 6.2.2): one block worked into a hash value, at full speed.
-// Promises upward: the hash value is the standard's.
+//! SHA-256's compression (FIPS 180-4, 6.2.2): one block worked into a hash value, at full speed.
+//! Promises upward: the hash value is the standard's.
 #![tactic(auto)]
 
-ghost use Rattle.std.specs.Prelude.{◌≡◌, ◌+◌, ◌-◌, ◌*◌, ◌<◌, ◌≤◌, length, take, slice_index};
+ghost use Rattle.std.specs.Prelude.{◌≡◌, ◌+◌, ◌/◌, ◌^◌, ◌<◌, ◌≤◌, bit_xor, length, take, slice_index};
+ghost use Rattle.std.specs.Int.{w32, rotate_right};
 ghost use Rattle.compression.specs.Functions.{ch, maj, sum0, sum1, sigma0, sigma1};
 ghost use Rattle.compression.specs.Compression.{K, round, plus, words, next, compress};
 ghost use Rattle.compression.specs.Steps.{upto, grown, extended};
-
-use std::num::wrapping_add_u32;
 
 // 4.2.2: the round constants. `K` is this table in the definitions.
 const ROUND_CONSTANTS: [u32; 64] = [
@@ -21,8 +20,8 @@ const ROUND_CONSTANTS: [u32; 64] = [
     0x748f82ee, 0x78a5636f, 0x84c87814, 0x8cc70208, 0x90befffa, 0xa4506ceb, 0xbef9a3f7, 0xc67178f2,
 ];
 
-// The hash value: eight words.
-#[derive(Clone, Copy)]
+/// The hash value: eight words.
+#[derive(Clone, Copy, Debug, PartialEq, Eq)]
 pub struct Hash {
     pub a: u32,
     pub b: u32,
@@ -34,25 +33,34 @@ pub struct Hash {
     pub h: u32,
 }
 
-// The round constants, for a caller to lay out in memory once for a message.
+/// The round constants, for a caller to lay out in memory once for a message.
+#[tactic(auto, unfolding(crate::specs::Compression::K))]
 pub fn constants() -> [u32; 64]
     ensures { result ≡ K }
 {
     ROUND_CONSTANTS
 }
 
+// The three rotations of a word that a sum is made of.
+fn sum<const A: u32, const B: u32, const C: u32>(x: u32) -> u32
+    ensures { result ≡ bit_xor (bit_xor (rotate_right w32 x A) (rotate_right w32 x B)) (rotate_right w32 x C) }
+{
+    x.rotate_right(A) ^ x.rotate_right(B) ^ x.rotate_right(C)
+}
+
 fn sum0(x: u32) -> u32
     ensures { result ≡ sum0 x }
 {
-    (x >> 2 | x << 30) ^ (x >> 13 | x << 19) ^ (x >> 22 | x << 10)
+    sum::<2, 13, 22>(x)
 }
 
 fn sum1(x: u32) -> u32
     ensures { result ≡ sum1 x }
 {
-    (x >> 6 | x << 26) ^ (x >> 11 | x << 21) ^ (x >> 25 | x << 7)
+    sum::<6, 11, 25>(x)
 }
 
+#[tactic(auto, using(crate::proofs::Bitwise::ch_is))]
 fn choose(x: u32, y: u32, z: u32) -> u32
     ensures { result ≡ ch x y z }
 {
@@ -60,6 +68,7 @@ fn choose(x: u32, y: u32, z: u32) -> u32
     (y ^ z) & x ^ z
 }
 
+#[tactic(auto, using(crate::proofs::Bitwise::maj_is))]
 fn most(x: u32, y: u32, z: u32) -> u32
     ensures { result ≡ maj x y z }
 {
@@ -67,53 +76,59 @@ fn most(x: u32, y: u32, z: u32) -> u32
     (x ^ y) & (y ^ z) ^ y
 }
 
+#[tactic(auto, unfolding(crate::specs::Compression::round))]
 fn one_round(s: Hash, k: u32, w: u32) -> Hash
     ensures { result ≡ round k w s }
 {
-    let t1 = wrapping_add_u32(
-        wrapping_add_u32(
-            wrapping_add_u32(wrapping_add_u32(s.h, sum1(s.e)), choose(s.e, s.f, s.g)),
-            k,
-        ),
-        w,
-    );
-    let t2 = wrapping_add_u32(sum0(s.a), most(s.a, s.b, s.c));
+    let t1 = s
+        .h
+        .wrapping_add(sum1(s.e))
+        .wrapping_add(choose(s.e, s.f, s.g))
+        .wrapping_add(k)
+        .wrapping_add(w);
+    let t2 = sum0(s.a).wrapping_add(most(s.a, s.b, s.c));
     Hash {
-        a: wrapping_add_u32(t1, t2),
+        a: t1.wrapping_add(t2),
         b: s.a,
         c: s.b,
         d: s.c,
-        e: wrapping_add_u32(s.d, t1),
+        e: s.d.wrapping_add(t1),
         f: s.e,
         g: s.f,
         h: s.g,
     }
 }
 
+// Two rotations of a word and a shift.
+fn sigma<const A: u32, const B: u32, const C: u32>(x: u32) -> u32
+    requires { C < 32 }
+    ensures { result ≡ bit_xor (bit_xor (rotate_right w32 x A) (rotate_right w32 x B)) (x / 2 ^ C) }
+{
+    x.rotate_right(A) ^ x.rotate_right(B) ^ x >> C
+}
+
 fn sigma_0(x: u32) -> u32
     ensures { result ≡ sigma0 x }
 {
-    (x >> 7 | x << 25) ^ (x >> 18 | x << 14) ^ x >> 3
+    sigma::<7, 18, 3>(x)
 }
 
 fn sigma_1(x: u32) -> u32
     ensures { result ≡ sigma1 x }
 {
-    (x >> 17 | x << 15) ^ (x >> 19 | x << 13) ^ x >> 10
+    sigma::<17, 19, 10>(x)
 }
 
 // Word 16 + j of a schedule whose words before it are there. Inner.
+#[tactic(auto, unfolding(crate::specs::Compression::next))]
 fn next_word(w: &[u32; 64], j: usize) -> u32
     requires { j < 48 }
     ensures { result ≡ next w.now j }
 {
-    wrapping_add_u32(
-        wrapping_add_u32(
-            wrapping_add_u32(sigma_1(w[j + 14]), w[j + 9]),
-            sigma_0(w[j + 1]),
-        ),
-        w[j],
-    )
+    sigma_1(w[j + 14])
+        .wrapping_add(w[j + 9])
+        .wrapping_add(sigma_0(w[j + 1]))
+        .wrapping_add(w[j])
 }
 
 // The sixteen words of a block, with room for the rest of the schedule. Inner.
@@ -122,10 +137,8 @@ fn loaded(b: &[u8]) -> [u32; 64]
     ensures { take 16 result ≡ words b.now 16 }
 {
     let mut w = [0u32; 64];
-    let mut i: usize = 0;
-    while i < 16 {
-        w[i] = words::quad_at(b, 4 * i) as u32;
-        i += 1;
+    for i in 0..16 {
+        w[i] = words::read_number::<4>(b, 4 * i) as u32;
     }
     w
 }
@@ -139,6 +152,7 @@ fn grow(w: &mut [u32; 64], j: usize)
 }
 
 // Four more words of the schedule, while there are any to come.
+#[tactic(auto, using(crate::proofs::Laws::extended_none), unfolding(crate::specs::Steps::extended))]
 fn extend(w: &mut [u32; 64], j: usize)
     ensures { w.new ≡ extended w.old j }
 {
@@ -154,14 +168,14 @@ fn add_hash(s: Hash, t: Hash) -> Hash
     ensures { result ≡ plus s t }
 {
     Hash {
-        a: wrapping_add_u32(s.a, t.a),
-        b: wrapping_add_u32(s.b, t.b),
-        c: wrapping_add_u32(s.c, t.c),
-        d: wrapping_add_u32(s.d, t.d),
-        e: wrapping_add_u32(s.e, t.e),
-        f: wrapping_add_u32(s.f, t.f),
-        g: wrapping_add_u32(s.g, t.g),
-        h: wrapping_add_u32(s.h, t.h),
+        a: s.a.wrapping_add(t.a),
+        b: s.b.wrapping_add(t.b),
+        c: s.c.wrapping_add(t.c),
+        d: s.d.wrapping_add(t.d),
+        e: s.e.wrapping_add(t.e),
+        f: s.f.wrapping_add(t.f),
+        g: s.g.wrapping_add(t.g),
+        h: s.h.wrapping_add(t.h),
     }
 }
 
@@ -174,6 +188,7 @@ fn round_at(s: Hash, k: &[u32; 64], w: &[u32; 64], i: usize) -> Hash
 }
 
 // Four rounds, from round i on. Inner.
+#[tactic(auto, unfolding(crate::specs::Steps::upto))]
 fn four(s: Hash, k: &[u32; 64], w: &[u32; 64], i: usize) -> Hash
     requires { i + 4 ≤ 64 }
     ensures { result ≡ upto k.now w.now i s 4 }
@@ -184,18 +199,16 @@ fn four(s: Hash, k: &[u32; 64], w: &[u32; 64], i: usize) -> Hash
     round_at(c, k, w, i + 3)
 }
 
-// The hash value s with the block b worked in; k is the table of constants. Schedule and rounds go side by side, four at a time. Inner.
+/// The hash value s with the block b worked in; k is the table of constants. Schedule and rounds go side by side, four at a time. Inner.
 pub fn compressed(s: Hash, k: &[u32; 64], b: &[u8]) -> Hash
     requires { (k.now ≡ K) × (length b.now ≡ 64) }
     ensures { result ≡ compress s b.now }
 {
     let mut w = loaded(b);
     let mut t = s;
-    let mut i: usize = 0;
-    while i < 64 {
+    for i in (0..64).step_by(4) {
         extend(&mut w, i);
         t = four(t, k, &w, i);
-        i += 4;
     }
     add_hash(s, t)
 }

@@ -1,163 +1,129 @@
-// Entry 2, once its body is read: add deferred. It scans the slots' keys once (7) and works at most one tag.
-// Promises upward: verdict, state and every byte of the cache are the rules', for any state and any lent cache; the run's expanded key is
-// passed in.
+//! Entry 2, once its body is read: add deferred. It scans the slots' keys once (7) and works at most one tag.
+//! Promises upward: verdict, state and every byte of the cache are the rules', for any state and any lent cache; the run's expanded key
+//! comes with the state.
 #![tactic(auto)]
 
-ghost use Rattle.std.specs.Prelude.{◌≡◌, ◌+◌, ◌*◌, ◌-◌, ◌≤◌, length};
-ghost use Rattle.aes.specs.Aes.{expansion};
-ghost use Rattle.hash.specs.Hashes.{set_bytes, tag_of};
+ghost use Rattle.std.specs.Prelude.{◌≡◌, ◌+◌, ◌*◌, ◌≤◌, ◌<◌, length, Some};
 ghost use Rattle.slot.specs.Slots.{slot_length};
-ghost use Rattle.state.specs.States.{added_current, added_old};
-ghost use Rattle.rules.specs.Outcomes.{outcome};
-ghost use Rattle.rules.specs.Adds.{named_epoch, in_time, add_counted, add_into, add_deferred};
+ghost use Rattle.state.specs.States.{count_limit};
+ghost use Rattle.rules.specs.Outcomes.{outcome, done};
+ghost use Rattle.rules.specs.Adds.{named_epoch, in_time, add_named, add_into, add_deferred};
+ghost use Rattle.deferred_adds.specs.Parts.{tally_of, added_to};
 
-use aes::Expanded;
+use cmac::Tag;
 use key::Key;
 use message::{Epoch, Message, Time};
-use rules::{Done, Named, gives};
+use rules::Named;
 use slot::{ORIGIN_DEFERRED, SLOT_BYTES, Slot, set_slot, slot_of};
-use state::{COUNT_LIMIT, Old, State, Tally};
+use state::{COUNT_LIMIT, Keyed, State, Tally};
 use tree::fits;
 use value::Value;
-use words::and;
+use verdict::Refusal;
 
 // Times begin at 1.
 const FIRST_TIME: u64 = 1;
 
-// The epoch before, or 0.
-fn before(e: u64) -> u64
-    ensures { result ≡ e - 1 }
-{
-    if e == 0 { 0 } else { e - 1 }
-}
-
 // 18: the current epoch, or the open old one, always the current one less 1.
-fn named_epoch(st: State, e: Epoch) -> Named
+#[tactic(auto, unfolding(rules::specs::Adds::named_epoch))]
+fn named_epoch(st: State, e: Epoch) -> Option<Named>
     ensures { result ≡ named_epoch st e }
 {
     if e.0 == st.epoch.0 {
-        return Named::Current;
+        return Some(Named::Current);
     }
-    let old = st.old;
-    match old {
-        Old::Closed => Named::NotOpen,
-        Old::Open(t) => {
-            if e.0 == before(st.epoch.0) {
-                return Named::Old(t);
-            }
-            Named::NotOpen
-        }
+    let old = st.old?;
+    if e.0 == st.epoch.0.saturating_sub(1) {
+        return Some(Named::Old(old));
     }
+    None
 }
 
 // 19: the time is 1 to the clock.
 fn in_time(t: Time, clock: Time) -> bool
     ensures { result ≡ in_time t clock }
 {
-    and(FIRST_TIME <= t.0, t.0 <= clock.0)
+    FIRST_TIME <= t.0 && t.0 <= clock.0
 }
 
-// 20, and the message goes into the current epoch's adds. Inner.
-fn add_current(x: Expanded, s: usize, m: Message, st: State, cache: &mut [u8]) -> Done
-    requires { (x.bytes ≡ expansion (set_bytes st.set)) × ((s + 1) * slot_length ≤ length cache.old) }
-    ensures { outcome result cache.new ≡ add_counted st.tally.adds s m.key m.value st (added_current st (tag_of st.set m)) cache.old }
+fn tally_of(st: State, named: Named) -> Tally
+    ensures { result ≡ tally_of st named }
 {
-    if COUNT_LIMIT <= st.tally.adds {
-        return gives(verdict::COUNT_FULL, st);
+    match named {
+        Named::Current => st.tally,
+        Named::Old(old) => old,
     }
-    let k = m.key;
-    let v = m.value;
-    let next = st.added_current(hash::tag_of(x, m));
-    set_slot(cache, s, ORIGIN_DEFERRED, k, v);
-    gives(verdict::ACCEPTED, next)
 }
 
-// 20, and the message goes into the old epoch's adds. Inner.
-fn add_old(x: Expanded, s: usize, m: Message, old: Tally, st: State, cache: &mut [u8]) -> Done
-    requires { (x.bytes ≡ expansion (set_bytes st.set)) × ((s + 1) * slot_length ≤ length cache.old) }
-    ensures { outcome result cache.new ≡ add_counted old.adds s m.key m.value st (added_old st old (tag_of st.set m)) cache.old }
+// A message more in the adds of a named epoch. Inner.
+fn added_to(st: State, named: Named, g: Tag) -> State
+    requires { (tally_of st named).adds < count_limit }
+    ensures { result ≡ added_to st named g }
 {
-    if COUNT_LIMIT <= old.adds {
-        return gives(verdict::COUNT_FULL, st);
+    match named {
+        Named::Current => st.added_current(g),
+        Named::Old(old) => st.added_old(old, g),
     }
-    let k = m.key;
-    let v = m.value;
-    let next = st.added_old(old, hash::tag_of(x, m));
-    set_slot(cache, s, ORIGIN_DEFERRED, k, v);
-    gives(verdict::ACCEPTED, next)
 }
 
-// 18, 19, 20. Inner.
-fn add_into(
-    x: Expanded,
+// 19, 20, and the message goes into the adds of a named epoch. Inner.
+fn add_named(
+    keyed: &Keyed,
     s: usize,
+    m: Message,
+    named: Named,
+    cache: &mut [u8],
+) -> Result<State, Refusal>
+    requires { (s + 1) * slot_length ≤ length cache.old }
+    ensures { outcome (done result keyed.now.state) cache.new ≡ add_named s m.epoch m.time m.key m.value keyed.now.state cache.old (Some named) }
+{
+    let st = keyed.state;
+    if !in_time(m.time, st.clock) {
+        return Err(Refusal::TimeOutOfRange);
+    }
+    if COUNT_LIMIT <= tally_of(st, named).adds {
+        return Err(Refusal::CountFull);
+    }
+    let next = added_to(st, named, keyed.tag_of(m));
+    set_slot(cache, s, ORIGIN_DEFERRED, m.key, m.value);
+    Ok(next)
+}
+
+/// 2: s, epoch, time, key, value. 4, 5, 7, 8, 18, and so on.
+#[tactic(auto, unfolding(rules::specs::Adds::add_deferred, rules::specs::Adds::add_into))]
+pub fn add_deferred(
+    keyed: &Keyed,
+    s: u16,
     e: Epoch,
     t: Time,
     k: Key,
     v: Value,
-    st: State,
     cache: &mut [u8],
-) -> Done
-    requires { (x.bytes ≡ expansion (set_bytes st.set)) × ((s + 1) * slot_length ≤ length cache.old) }
-    ensures { outcome result cache.new ≡ add_into s e t k v st cache.old }
+) -> Result<State, Refusal>
+    ensures { outcome (done result keyed.now.state) cache.new ≡ add_deferred s e t k v keyed.now.state cache.old }
 {
+    let s = usize::from(s);
+    if cache.len() / SLOT_BYTES <= s {
+        return Err(Refusal::NoSlot);
+    }
+    match slot_of(cache, s) {
+        Slot::Free => {}
+        Slot::Bad => return Err(Refusal::NotWell),
+        Slot::Full { .. } => return Err(Refusal::SlotTaken),
+    }
+    if cache::held(cache, k) {
+        return Err(Refusal::KeyHeld);
+    }
+    if !fits(k, v) {
+        return Err(Refusal::WrongKind);
+    }
+    let Some(named) = named_epoch(keyed.state, e) else {
+        return Err(Refusal::EpochNotOpen);
+    };
     let m = Message {
         epoch: e,
         time: t,
         key: k,
         value: v,
     };
-    let clock = st.clock;
-    match named_epoch(st, e) {
-        Named::NotOpen => gives(verdict::EPOCH_NOT_OPEN, st),
-        Named::Current => {
-            if in_time(t, clock) {
-                return add_current(x, s, m, st, cache);
-            }
-            gives(verdict::TIME_OUT_OF_RANGE, st)
-        }
-        Named::Old(old) => {
-            if in_time(t, clock) {
-                return add_old(x, s, m, old, st, cache);
-            }
-            gives(verdict::TIME_OUT_OF_RANGE, st)
-        }
-    }
-}
-
-// 2: s, epoch, time, key, value. 4, 5, 7, 8, and so on; x is the set key expanded. Inner.
-pub fn add_deferred(
-    x: Expanded,
-    s: u16,
-    e: Epoch,
-    t: Time,
-    k: Key,
-    v: Value,
-    st: State,
-    cache: &mut [u8],
-) -> Done
-    requires { x.bytes ≡ expansion (set_bytes st.set) }
-    ensures { outcome result cache.new ≡ add_deferred s e t k v st cache.old }
-{
-    let i = s as usize;
-    if cache.len() / SLOT_BYTES <= i {
-        return gives(verdict::NO_SLOT, st);
-    }
-    match slot_of(cache, i) {
-        Slot::Free => {
-            if cache::held(cache, k) {
-                return gives(verdict::KEY_HELD, st);
-            }
-            if fits(k, v) {
-                return add_into(x, i, e, t, k, v, st, cache);
-            }
-            gives(verdict::WRONG_KIND, st)
-        }
-        Slot::Bad => gives(verdict::NOT_WELL, st),
-        Slot::Full {
-            origin: _,
-            key: _,
-            value: _,
-        } => gives(verdict::SLOT_TAKEN, st),
-    }
+    add_named(keyed, s, m, named, cache)
 }

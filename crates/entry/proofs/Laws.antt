@@ -9,25 +9,18 @@ use lib.Seq.{take-append-le, drop-append-le, get_or-take}
 use borrow.Author.Tests.{lt-ltb, le-ltb, ltb-false}
 use Rattle.words.specs.Numbers.{number_at}
 use Rattle.words.specs.Splices.{part}
-use Rattle.words.proofs.Laws.{number_front, part_rest, picked, never}
+use Rattle.words.proofs.Laws.{number_front, picked, never}
+use Rattle.std.specs.Prelude.{Option, Some, None, Err}
+use Rattle.std.proofs.lemmas.Option.{same_Some}
 use Rattle.entry.specs.Entries.{entry_of, head_of, head_end, read_by, reading_of, read_entry, read_at, reading_used}
-use Rattle.entry.specs.declared.EntryRead.{EntryRead}
-use Rattle.entry.specs.declared.EntryRead.TheVariants.{Good, Bad}
+use Rattle.entry.specs.declared.Entry.{Entry}
 use Rattle.entry.specs.declared.Head.{Head}
-use Rattle.entry.specs.declared.Head.TheVariants.{Cut, Whole}
-use Rattle.entry.specs.declared.Reading.{Reading}
-use Rattle.entry.specs.declared.Reading.TheVariants as reading
+use Rattle.entry.specs.declared.Unread.TheVariants.{Short}
 
--- ---- the plain form, log and place apart
-
--- past the end there is no entry
-pub read_past : (log : List ℕ) (at : ℕ) → length log ≤ at → reading.Short ≡ read_at log at
+-- past the end of a log there is no entry
+pub read_past : (log : List ℕ) (at : ℕ) → length log ≤ at → Err Short ≡ read_at log at
 unfolding read_entry head_of
 read_past log at h = simp (lt-ltb (length (drop at log)) 3 (simp length-drop (omega arith)))
-
--- the part of a log from a place on is all that is left there
-pub read_rest : (log : List ℕ) (at : ℕ) (r : Reading) → r ≡ read_entry (take (length log - at) (drop at log)) → r ≡ read_at log at
-read_rest log at r e = e ∙ ap read_entry (part_rest log at)
 
 -- ---- the head
 
@@ -37,54 +30,58 @@ pub record HeadThere (log : List ℕ) (t n : ℕ) : Type 0 where
   pub tag : get_or log 0 0 ≡ t
   pub len : number_at 2 log 1 ≡ n
 
-pub head_there : (log : List ℕ) (t n : ℕ) → head_of log ≡ Whole t n → HeadThere log t n
+pub head_there : (log : List ℕ) (t n : ℕ) → head_of log ≡ Some (record { tag = t; len = n }) → HeadThere log t n
 unfolding head_of
 head_there log t n e =
     picked (ltb (length log) 3) _ _ _ e (λ _ q. never cc) λ a q.
     picked (ltb (length log - 3) (number_at 2 log 1)) _ _ _ q (λ _ u. never cc) λ b u.
-    let p : get_or log 0 0 ≡ t = cc in
-    let l : number_at 2 log 1 ≡ n = cc in
-    record { whole = omega (arith, ltb-false (length log) 3 a, ltb-false (length log - 3) (number_at 2 log 1) b); tag = p; len = l }
+    let same = same_Some _ _ u in
+    let l : number_at 2 log 1 ≡ n = ap (λ (h : Head). h.len) same in
+    record {
+      whole = omega (arith, ltb-false (length log) 3 a, ltb-false (length log - 3) (number_at 2 log 1) b);
+      tag = ap (λ (h : Head). h.tag) same;
+      len = l;
+    }
 
-pub head_made : (log : List ℕ) (t n : ℕ) → HeadThere log t n → head_of log ≡ Whole t n
+pub head_made : (log : List ℕ) (t n : ℕ) → HeadThere log t n → head_of log ≡ Some (record { tag = t; len = n })
 unfolding head_of
 head_made log t n h =
     rw (h.tag, h.len, le-ltb (length log) 3 (omega (arith, h.whole)), le-ltb (length log - 3) n (omega (arith, h.whole)))
 
 -- ---- bytes used
 
-used_by : (n : ℕ) (x : EntryRead) → reading_used (reading_of n x) ≡ n
-used_by n Bad = refl
-used_by n (Good e) = refl
+used_by : (n : ℕ) (x : Option Entry) → reading_used (reading_of n x) ≡ n
+used_by n None = refl
+used_by n (Some e) = refl
 
 -- the bytes used are the head and its body: the entry's whole length, or none
 pub read_used : (log : List ℕ) → reading_used (read_entry log) ≡ head_end (head_of log)
 unfolding read_entry
 read_used log = go (head_of log)
   where
-    go : (h : Head) → reading_used (read_by log h) ≡ head_end h
-    go Cut = refl
-    go (Whole t n) = used_by (3 + n) (entry_of t (part log 3 n))
+    go : (h : Option Head) → reading_used (read_by log h) ≡ head_end h
+    go None = refl
+    go (Some h) = used_by (3 + h.len) (entry_of h.tag (part log 3 h.len))
 
 -- they are at most what the log has
 pub used_within : (log : List ℕ) → reading_used (read_entry log) ≤ length log
 used_within log = rw (read_used log) (go (head_of log) refl)
   where
-    go : (h : Head) → head_of log ≡ h → head_end h ≤ length log
-    go Cut e = omega arith
-    go (Whole t n) e = (head_there log t n e).whole
+    go : (h : Option Head) → head_of log ≡ h → head_end h ≤ length log
+    go None e = omega arith
+    go (Some h) e = (head_there log h.tag h.len e).whole
 
-cut_short : (log : List ℕ) → head_of log ≡ Cut → read_entry log ≡ reading.Short
+cut_short : (log : List ℕ) → head_of log ≡ None → read_entry log ≡ Err Short
 unfolding read_entry
 cut_short log e = rw e
 
 -- and at least a head's, where there is an entry
-pub used_some : (log : List ℕ) → (read_entry log ≡ reading.Short → ⊥) → 3 ≤ reading_used (read_entry log)
+pub used_some : (log : List ℕ) → (read_entry log ≡ Err Short → ⊥) → 3 ≤ reading_used (read_entry log)
 used_some log f = rw (read_used log) (go (head_of log) refl)
   where
-    go : (h : Head) → head_of log ≡ h → 3 ≤ head_end h
-    go Cut e = absurd (f (cut_short log e))
-    go (Whole t n) e = omega arith
+    go : (h : Option Head) → head_of log ≡ h → 3 ≤ head_end h
+    go None e = absurd (f (cut_short log e))
+    go (Some h) e = omega arith
 
 -- ---- what the reader looks at
 
@@ -125,14 +122,14 @@ module _ (log : List ℕ) (t n : ℕ) (h : HeadThere log t n) where
   read_whole : read_entry log ≡ read_entry (take (3 + n) log)
   read_whole = ap read_entry (sym (take-append-drop (3 + n) log)) ∙ read_front (take (3 + n) log) (drop (3 + n) log) t n head_own
 
-none : head_of [] ≡ Cut
+nothing : head_of [] ≡ None
 unfolding head_of
-none = refl
+nothing = refl
 
 -- the reader looks at no byte but those it uses
 pub read_own : (log : List ℕ) → read_entry log ≡ read_entry (take (reading_used (read_entry log)) log)
 read_own log = rw (read_used log) (go (head_of log) refl)
   where
-    go : (h : Head) → head_of log ≡ h → read_entry log ≡ read_entry (take (head_end h) log)
-    go Cut e = cut_short log e ∙ sym (cut_short [] none)
-    go (Whole t n) e = read_whole log t n (head_there log t n e)
+    go : (h : Option Head) → head_of log ≡ h → read_entry log ≡ read_entry (take (head_end h) log)
+    go None e = cut_short log e ∙ sym (cut_short [] nothing)
+    go (Some h) e = read_whole log h.tag h.len (head_there log h.tag h.len e)

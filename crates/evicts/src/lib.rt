@@ -1,223 +1,178 @@
-// Entries 3 and 5, once their bodies are read: evict to tree, evict a tree record deferred. They share their checks up to 11; 3 works one
-// digest, 5 one tag.
-// Promises upward: verdict, state and every byte of the cache are the rules', for any lent cache and any state whose clock is below its
-// bound; the run's expanded key is passed in.
+//! Entries 3 and 5, once their bodies are read: evict to tree, evict a tree record deferred. They share their checks up to 11; 3 works one
+//! digest, 5 one tag.
+//! Promises upward: verdict, state and every byte of the cache are the rules', for any lent cache and any state whose clock is below its
+//! bound; the set key's expansion comes with the state.
 #![tactic(auto)]
 
-ghost use Rattle.std.specs.Prelude.{◌≡◌, true, false, ◌+◌, ◌*◌, ◌≤◌, ◌<◌, length};
-ghost use Rattle.aes.specs.Aes.{expansion};
+ghost use Rattle.std.specs.Prelude.{◌≡◌, false, ◌+◌, ◌*◌, ◌≤◌, length};
 ghost use Rattle.value.specs.declared.Side.TheVariants.{Link};
-ghost use Rattle.hash.specs.Hashes.{set_bytes, digest_of};
+ghost use Rattle.hash.specs.Hashes.{digest_of};
 ghost use Rattle.slot.specs.Slots.{slot_length};
-ghost use Rattle.state.specs.States.{count_limit, clock_limit, evicted};
-ghost use Rattle.rules.specs.Outcomes.{outcome, accepts};
-ghost use Rattle.rules.specs.Evicts.{unlinked, to_deferred, evict_link, evict_node, evict_under, evict_by};
+ghost use Rattle.state.specs.States.{clock_limit};
+ghost use Rattle.rules.specs.Outcomes.{outcome, done};
+ghost use Rattle.rules.specs.Evicts.{unlinked, to_deferred, evict_link, evict_under, evict_by};
 
-use aes::Expanded;
 use key::Key;
-use rules::{Done, gives};
-use slot::{ORIGIN_TREE, SLOT_BYTES, Slot, free_slot, set_slot, slot_of};
-use state::{COUNT_LIMIT, State};
-use tree::{side_of, with_side};
-use value::{Digest, Node, Side, Value};
+use rules::{Parent, ROOT_SLOT};
+use slot::{ORIGIN_TREE, SLOT_BYTES, Slot, free_slot, slot_of};
+use state::{COUNT_LIMIT, Keyed, State};
+use value::{Digest, Side, Value};
+use verdict::Refusal;
 
-// The root's slot.
-const ROOT_SLOT: usize = 0;
-
-// The state after a record left deferred: the clock rises by one, and its message goes into the current epoch's evicts. Inner.
-fn evicted(x: Expanded, k: Key, v: Value, st: State) -> State
-    requires { (x.bytes ≡ expansion (set_bytes st.set)) × (st.clock.0 ≤ clock_limit) × (st.tally.evicts < count_limit) }
-    ensures { result ≡ evicted st k v }
-{
-    st.evicted_state(hash::tag_of(x, st.evict_message(k, v)))
+// The record that leaves, and the slot that it leaves.
+#[derive(Clone, Copy)]
+struct Leaving {
+    slot: usize,
+    origin: u8,
+    key: Key,
+    value: Value,
 }
 
-// p's link replaced, and slot s free. Inner.
-fn unlink(s: usize, p: usize, po: u8, pk: Key, n: Node, right: bool, link: Side, cache: &mut [u8])
-    requires { ((s + 1) * slot_length ≤ length cache.old) × ((p + 1) * slot_length ≤ length cache.old) }
-    ensures { cache.new ≡ unlinked s p po pk n right link cache.old }
-{
-    set_slot(cache, p, po, pk, Value::Node(with_side(n, right, link)));
-    free_slot(cache, s);
-}
-
-// 3: p's link gets the digest of s's value and mark 0. Either origin will do. Inner.
-fn to_tree(
-    s: usize,
-    p: usize,
-    k: Key,
-    v: Value,
-    po: u8,
-    pk: Key,
-    n: Node,
-    right: bool,
-    st: State,
-    cache: &mut [u8],
-) -> Done
-    requires { ((s + 1) * slot_length ≤ length cache.old) × ((p + 1) * slot_length ≤ length cache.old) }
-    ensures { outcome result cache.new ≡ accepts st (unlinked s p po pk n right (Link k (digest_of v) false) cache.old) }
-{
-    let link = Side::Link {
-        key: k,
-        digest: hash::digest_of(v),
-        mark: false,
-    };
-    unlink(s, p, po, pk, n, right, link, cache);
-    gives(verdict::ACCEPTED, st)
-}
-
-// 5: 16, 20. The mark is set in p's link, and its digest stays. Inner.
-fn to_deferred(
-    x: Expanded,
-    s: usize,
-    p: usize,
-    o: u8,
-    k: Key,
-    v: Value,
-    po: u8,
-    pk: Key,
-    n: Node,
-    right: bool,
-    st: State,
-    cache: &mut [u8],
-    ld: Digest,
-) -> Done
-    requires { ((x.bytes ≡ expansion (set_bytes st.set)) × (st.clock.0 ≤ clock_limit)) × ((s + 1) * slot_length ≤ length cache.old) × ((p + 1) * slot_length ≤ length cache.old) }
-    ensures { outcome result cache.new ≡ to_deferred s p o k v po pk n right st cache.old ld }
-{
-    if o != ORIGIN_TREE {
-        return gives(verdict::WRONG_ORIGIN, st);
+impl Leaving {
+    // Its parent's link replaced, and its slot free. Inner.
+    #[tactic(auto, unfolding(rules::specs::Evicts::unlinked))]
+    fn unlink(self, at: Parent, link: Side, cache: &mut [u8])
+        requires { ((self.slot + 1) * slot_length ≤ length cache.old) × ((at.slot + 1) * slot_length ≤ length cache.old) }
+        ensures { cache.new ≡ unlinked self.slot at.slot at.origin at.key at.node at.right link cache.old }
+    {
+        at.set_side(link, cache);
+        free_slot(cache, self.slot);
     }
-    if COUNT_LIMIT <= st.tally.evicts {
-        return gives(verdict::COUNT_FULL, st);
-    }
-    let link = Side::Link {
-        key: k,
-        digest: ld,
-        mark: true,
-    };
-    unlink(s, p, po, pk, n, right, link, cache);
-    gives(verdict::ACCEPTED, evicted(x, k, v, st))
-}
 
-// 11: p's side toward the key held in s is a link that names it. Then 3, or 5 where deferring. Inner.
-fn evict_link(
-    x: Expanded,
-    deferring: bool,
-    s: usize,
-    p: usize,
-    o: u8,
-    k: Key,
-    v: Value,
-    po: u8,
-    pk: Key,
-    n: Node,
-    right: bool,
-    st: State,
-    cache: &mut [u8],
-) -> Done
-    requires { ((x.bytes ≡ expansion (set_bytes st.set)) × (st.clock.0 ≤ clock_limit)) × ((s + 1) * slot_length ≤ length cache.old) × ((p + 1) * slot_length ≤ length cache.old) }
-    ensures { outcome result cache.new ≡ evict_link deferring s p o k v po pk n right st cache.old }
-{
-    match side_of(n, right) {
-        Side::Empty => gives(verdict::NO_LINK, st),
-        Side::Link {
-            key: lk,
-            digest: ld,
-            mark: _,
-        } => {
-            if lk.same(k) {
-                if deferring {
-                    return to_deferred(x, s, p, o, k, v, po, pk, n, right, st, cache, ld);
+    // 3: the parent's link gets the digest of the value and mark 0. Either origin will do. Inner.
+    fn to_tree(self, at: Parent, cache: &mut [u8])
+        requires { ((self.slot + 1) * slot_length ≤ length cache.old) × ((at.slot + 1) * slot_length ≤ length cache.old) }
+        ensures { cache.new ≡ unlinked self.slot at.slot at.origin at.key at.node at.right (Link self.key (digest_of self.value) false) cache.old }
+    {
+        let link = Side::Link {
+            key: self.key,
+            digest: hash::digest_of(self.value),
+            mark: false,
+        };
+        self.unlink(at, link, cache);
+    }
+
+    // 5: 16, 20. The mark is set in the parent's link, and its digest stays. The clock rises by one, and the message goes into the current
+    // epoch's evicts. Inner.
+    #[tactic(auto, unfolding(state::specs::States::evicted))]
+    fn to_deferred(
+        self,
+        keyed: &Keyed,
+        at: Parent,
+        digest: Digest,
+        cache: &mut [u8],
+    ) -> Result<State, Refusal>
+        requires { (keyed.now.state.clock.0 ≤ clock_limit) × ((self.slot + 1) * slot_length ≤ length cache.old) × ((at.slot + 1) * slot_length ≤ length cache.old) }
+        ensures { outcome (done result keyed.now.state) cache.new ≡ to_deferred self.slot at.slot self.origin self.key self.value at.origin at.key at.node at.right keyed.now.state cache.old digest }
+    {
+        let st = keyed.state;
+        if self.origin != ORIGIN_TREE {
+            return Err(Refusal::WrongOrigin);
+        }
+        if COUNT_LIMIT <= st.tally.evicts {
+            return Err(Refusal::CountFull);
+        }
+        let link = Side::Link {
+            key: self.key,
+            digest,
+            mark: true,
+        };
+        self.unlink(at, link, cache);
+        Ok(st.evicted_state(keyed.tag_of(st.evict_message(self.key, self.value))))
+    }
+
+    // 11: the parent's side toward the key is a link that names it. Then 3, or 5 where deferring. Inner.
+    #[tactic(auto, unfolding(rules::specs::Evicts::evict_link, key::specs::Keys::key_eq))]
+    fn evict_link(
+        self,
+        keyed: &Keyed,
+        deferring: bool,
+        at: Parent,
+        cache: &mut [u8],
+    ) -> Result<State, Refusal>
+        requires { (keyed.now.state.clock.0 ≤ clock_limit) × ((self.slot + 1) * slot_length ≤ length cache.old) × ((at.slot + 1) * slot_length ≤ length cache.old) }
+        ensures { outcome (done result keyed.now.state) cache.new ≡ evict_link deferring self.slot at.slot self.origin self.key self.value at.origin at.key at.node at.right keyed.now.state cache.old }
+    {
+        let Side::Link { key, digest, .. } = at.side() else {
+            return Err(Refusal::NoLink);
+        };
+        if key != self.key {
+            return Err(Refusal::NoLink);
+        }
+        if deferring {
+            return self.to_deferred(keyed, at, digest, cache);
+        }
+        self.to_tree(at, cache);
+        Ok(keyed.state)
+    }
+
+    // 6 of p, 8 of p, 10. Inner.
+    #[tactic(auto, unfolding(rules::specs::Evicts::evict_under, rules::specs::Evicts::evict_node))]
+    fn evict_under(
+        self,
+        keyed: &Keyed,
+        deferring: bool,
+        p: usize,
+        cache: &mut [u8],
+    ) -> Result<State, Refusal>
+        requires { (keyed.now.state.clock.0 ≤ clock_limit) × ((self.slot + 1) * slot_length ≤ length cache.old) × ((p + 1) * slot_length ≤ length cache.old) }
+        ensures { outcome (done result keyed.now.state) cache.new ≡ evict_under deferring self.slot p self.origin self.key self.value keyed.now.state cache.old }
+    {
+        match slot_of(cache, p) {
+            Slot::Free => Err(Refusal::SlotEmpty),
+            Slot::Bad => Err(Refusal::NotWell),
+            Slot::Full { origin, key, value } => {
+                let Value::Node(node) = value else {
+                    return Err(Refusal::WrongKind);
+                };
+                if !key.above(self.key) {
+                    return Err(Refusal::NoAncestor);
                 }
-                return to_tree(s, p, k, v, po, pk, n, right, st, cache);
+                let at = Parent {
+                    slot: p,
+                    origin,
+                    key,
+                    node,
+                    right: key.toward(self.key),
+                };
+                self.evict_link(keyed, deferring, at, cache)
             }
-            gives(verdict::NO_LINK, st)
         }
     }
 }
 
-// 8 of p, 10. Inner.
-fn evict_node(
-    x: Expanded,
+/// 3, or 5 where deferring: s, p. 4 of s and of p, 17, 6 of s, and so on. Inner.
+#[tactic(auto, unfolding(rules::specs::Evicts::evict_by))]
+pub fn evict_by(
+    keyed: &Keyed,
     deferring: bool,
-    s: usize,
-    p: usize,
-    o: u8,
-    k: Key,
-    v: Value,
-    po: u8,
-    pk: Key,
-    pv: Value,
-    st: State,
+    s: u16,
+    p: u16,
     cache: &mut [u8],
-) -> Done
-    requires { ((x.bytes ≡ expansion (set_bytes st.set)) × (st.clock.0 ≤ clock_limit)) × ((s + 1) * slot_length ≤ length cache.old) × ((p + 1) * slot_length ≤ length cache.old) }
-    ensures { outcome result cache.new ≡ evict_node deferring s p o k v po pk pv st cache.old }
-{
-    match pv {
-        Value::None => gives(verdict::WRONG_KIND, st),
-        Value::Fingerprint(_) => gives(verdict::WRONG_KIND, st),
-        Value::Node(n) => {
-            if pk.above(k) {
-                let right = pk.toward(k);
-                return evict_link(x, deferring, s, p, o, k, v, po, pk, n, right, st, cache);
-            }
-            gives(verdict::NO_ANCESTOR, st)
-        }
-    }
-}
-
-// 6 of p. Inner.
-fn evict_under(
-    x: Expanded,
-    deferring: bool,
-    s: usize,
-    p: usize,
-    o: u8,
-    k: Key,
-    v: Value,
-    st: State,
-    cache: &mut [u8],
-) -> Done
-    requires { ((x.bytes ≡ expansion (set_bytes st.set)) × (st.clock.0 ≤ clock_limit)) × ((s + 1) * slot_length ≤ length cache.old) × ((p + 1) * slot_length ≤ length cache.old) }
-    ensures { outcome result cache.new ≡ evict_under deferring s p o k v st cache.old }
-{
-    match slot_of(cache, p) {
-        Slot::Free => gives(verdict::SLOT_EMPTY, st),
-        Slot::Bad => gives(verdict::NOT_WELL, st),
-        Slot::Full {
-            origin: po,
-            key: pk,
-            value: pv,
-        } => evict_node(x, deferring, s, p, o, k, v, po, pk, pv, st, cache),
-    }
-}
-
-// 3, or 5 where deferring: s, p. 4 of s and of p, 17, 6 of s, and so on. Inner.
-pub fn evict_by(x: Expanded, deferring: bool, s: u16, p: u16, st: State, cache: &mut [u8]) -> Done
-    requires { (x.bytes ≡ expansion (set_bytes st.set)) × (st.clock.0 ≤ clock_limit) }
-    ensures { outcome result cache.new ≡ evict_by deferring s p st cache.old }
+) -> Result<State, Refusal>
+    requires { keyed.now.state.clock.0 ≤ clock_limit }
+    ensures { outcome (done result keyed.now.state) cache.new ≡ evict_by deferring s p keyed.now.state cache.old }
 {
     let count = cache.len() / SLOT_BYTES;
-    let i = s as usize;
-    let j = p as usize;
-    if count <= i {
-        return gives(verdict::NO_SLOT, st);
-    }
-    if count <= j {
-        return gives(verdict::NO_SLOT, st);
+    let i = usize::from(s);
+    let j = usize::from(p);
+    if count <= i || count <= j {
+        return Err(Refusal::NoSlot);
     }
     if i == ROOT_SLOT {
-        return gives(verdict::ROOT_SLOT, st);
+        return Err(Refusal::RootSlot);
     }
     match slot_of(cache, i) {
-        Slot::Free => gives(verdict::SLOT_EMPTY, st),
-        Slot::Bad => gives(verdict::NOT_WELL, st),
-        Slot::Full {
-            origin: o,
-            key: k,
-            value: v,
-        } => evict_under(x, deferring, i, j, o, k, v, st, cache),
+        Slot::Free => Err(Refusal::SlotEmpty),
+        Slot::Bad => Err(Refusal::NotWell),
+        Slot::Full { origin, key, value } => {
+            let leaving = Leaving {
+                slot: i,
+                origin,
+                key,
+                value,
+            };
+            leaving.evict_under(keyed, deferring, j, cache)
+        }
     }
 }

@@ -10,19 +10,17 @@ use borrow.Author.Tests.{lt-leb}
 use Rattle.words.specs.Numbers.{zeros}
 use Rattle.words.proofs.Laws.{both_true}
 use Rattle.key.specs.Keys.{key_at, key_bytes, well_key, is_data, root_key, KeyFits}
-use Rattle.key.specs.declared.KeyRead.TheVariants as kr
 use Rattle.key.proofs.Laws.{key_back, root_fits, root_well, data_well}
 use Rattle.value.specs.Values.{value_at, value_bytes, well_value, ValueFits}
 use Rattle.value.specs.declared.Value.{Value}
 use Rattle.value.specs.declared.Value.TheVariants as v
-use Rattle.value.specs.declared.ValueRead.TheVariants as vr
 use Rattle.value.proofs.Back.{value_back}
 use Rattle.slot.specs.Slots.{all_zero}
 use Rattle.slot.proofs.Laws.{all_zero_lem, splice_zeros}
 use Rattle.entry.specs.Entries.{well_entry}
 use Rattle.entry.specs.declared.Entry.{Entry}
 use Rattle.entry.specs.declared.Entry.TheVariants.{AddTree, AddDeferred, EvictTree, EvictDeferred, EvictTreeDeferred, Get, Absent, Put, Advance, Close}
-use Rattle.entry.specs.declared.EntryRead.TheVariants.{Good}
+use Rattle.std.specs.Prelude.{Some}
 use Rattle.writer.specs.Writings.{EntryFits}
 use Rattle.fields.specs.Forms.{value_length, undated, fields_of, numbers_of, value_field, entry_with, entry_from}
 use Rattle.fields.specs.declared.Fields.{Fields}
@@ -34,7 +32,7 @@ module _ (x : Value) where
   unfolding value_field
   field_value = splice_zeros value_length (value_bytes x)
 
-  field_back : ValueFits x → well_value x ≡ true → value_at (value_field x) 0 ≡ vr.Good x (length (value_bytes x))
+  field_back : ValueFits x → well_value x ≡ true → value_at (value_field x) 0 ≡ Some (x, length (value_bytes x))
   field_back f w = rw field_value (value_back 0 [] (zeros (value_length - length (value_bytes x))) refl x f w)
 
   field_rest : all_zero (drop (length (value_bytes x)) (value_field x)) ≡ true
@@ -58,7 +56,7 @@ unfolding entry_from
 fields_back f w =
     rw (lt-leb 256 f.tag w.tag, lt-leb 65536 f.s w.s, lt-leb 65536 f.p w.p, key, field_back f.value w.value_fits w.value, field_rest f.value)
   where
-    key : key_at (key_bytes f.key) 0 ≡ kr.Good f.key
+    key : key_at (key_bytes f.key) 0 ≡ Some f.key
     key = ap (λ (l : List ℕ). key_at l 0) (sym (append-nil (key_bytes f.key))) ∙ key_back f.key w.key_fits 0 [] [] refl w.key
 
 -- ---- every entry
@@ -93,7 +91,7 @@ entry_well Advance f w = bare 9 0 0 (lit< tt) (lit< tt) (lit< tt)
 entry_well Close f w = bare 10 0 0 (lit< tt) (lit< tt) (lit< tt)
 
 -- the fields of any entry, well formed or not, are the entry's
-pub with_fields : (e : Entry) → entry_with (fields_of e) ≡ Good e
+pub with_fields : (e : Entry) → entry_with (fields_of e) ≡ Some e
 unfolding entry_with fields_of
 with_fields (AddTree s p k x) = refl
 with_fields (AddDeferred s e t k x) = refl
@@ -108,5 +106,5 @@ with_fields Close = refl
 
 -- written and read back without loss
 pub entry_back : (e : Entry) → EntryFits e → well_entry e ≡ true
-    → entry_from (numbers_of (fields_of e)) (key_bytes (fields_of e).key) (value_field (fields_of e).value) ≡ Good e
+    → entry_from (numbers_of (fields_of e)) (key_bytes (fields_of e).key) (value_field (fields_of e).value) ≡ Some e
 entry_back e f w = fields_back (fields_of e) (entry_well e f w) ∙ with_fields e

@@ -1,22 +1,16 @@
 -- An entry as fields of a fixed form: five numbers (tag, s, p, epoch, time), the 34 bytes of a key, and 137 bytes that are a value and then zeros.
-use Rattle.std.specs.Prelude.{ℕ, List, [], ◌∷◌, get_or, drop, leb, eqb}
+use Rattle.std.specs.Prelude.{ℕ, Option, Some, None, List, [], ◌∷◌, get_or, drop, leb, eqb}
 use Rattle.words.specs.Choice.{pick}
 use Rattle.words.specs.Numbers.{zeros}
 use Rattle.words.specs.Splices.{splice}
 use Rattle.key.specs.Keys.{root_key, key_at}
 use Rattle.key.specs.declared.Key.{Key}
-use Rattle.key.specs.declared.KeyRead.{KeyRead}
-use Rattle.key.specs.declared.KeyRead.TheVariants as kr
 use Rattle.value.specs.Values.{value_at, value_bytes}
 use Rattle.value.specs.declared.Value.{Value}
 use Rattle.value.specs.declared.Value.TheVariants as v
-use Rattle.value.specs.declared.ValueRead.{ValueRead}
-use Rattle.value.specs.declared.ValueRead.TheVariants as vr
 use Rattle.slot.specs.Slots.{all_zero}
 use Rattle.entry.specs.declared.Entry.{Entry}
 use Rattle.entry.specs.declared.Entry.TheVariants.{AddTree, AddDeferred, EvictTree, EvictDeferred, EvictTreeDeferred, Get, Absent, Put, Advance, Close}
-use Rattle.entry.specs.declared.EntryRead.{EntryRead}
-use Rattle.entry.specs.declared.EntryRead.TheVariants.{Good, Bad}
 use Rattle.fields.specs.declared.Fields.{Fields}
 
 abbrev pub value_length : ℕ
@@ -51,32 +45,32 @@ value_field x = splice (zeros value_length) 0 (value_bytes x)
 -- ---- put together
 
 -- by its tag the entry of these fields; a field that it does not have is not looked at
-unfoldable pub entry_with : Fields → EntryRead
+unfoldable pub entry_with : Fields → Option Entry
 entry_with f =
-    pick (eqb f.tag 1) (Good (AddTree f.s f.p f.key f.value))
-    (pick (eqb f.tag 2) (Good (AddDeferred f.s f.epoch f.time f.key f.value))
-    (pick (eqb f.tag 3) (Good (EvictTree f.s f.p))
-    (pick (eqb f.tag 4) (Good (EvictDeferred f.s))
-    (pick (eqb f.tag 5) (Good (EvictTreeDeferred f.s f.p))
-    (pick (eqb f.tag 6) (Good (Get f.s f.key f.value))
-    (pick (eqb f.tag 7) (Good (Absent f.p f.key))
-    (pick (eqb f.tag 8) (Good (Put f.s f.key f.value))
-    (pick (eqb f.tag 9) (Good Advance)
-    (pick (eqb f.tag 10) (Good Close) Bad)))))))))
+    pick (eqb f.tag 1) (Some (AddTree f.s f.p f.key f.value))
+    (pick (eqb f.tag 2) (Some (AddDeferred f.s f.epoch f.time f.key f.value))
+    (pick (eqb f.tag 3) (Some (EvictTree f.s f.p))
+    (pick (eqb f.tag 4) (Some (EvictDeferred f.s))
+    (pick (eqb f.tag 5) (Some (EvictTreeDeferred f.s f.p))
+    (pick (eqb f.tag 6) (Some (Get f.s f.key f.value))
+    (pick (eqb f.tag 7) (Some (Absent f.p f.key))
+    (pick (eqb f.tag 8) (Some (Put f.s f.key f.value))
+    (pick (eqb f.tag 9) (Some Advance)
+    (pick (eqb f.tag 10) (Some Close) None)))))))))
 
 abbrev pub fields_with : List ℕ → Key → Value → Fields
 fields_with n k x =
     record { tag = get_or n 0 0; s = get_or n 1 0; p = get_or n 2 0; epoch = record { 0 = get_or n 3 0 }; time = record { 0 = get_or n 4 0 }; key = k; value = x }
 
-abbrev pub value_then : List ℕ → List ℕ → Key → ValueRead → EntryRead
-value_then n x k vr.Bad = Bad
-value_then n x k (vr.Good y m) = pick (all_zero (drop m x)) (entry_with (fields_with n k y)) Bad
+abbrev pub value_then : List ℕ → List ℕ → Key → Option (Value × ℕ) → Option Entry
+value_then n x k None = None
+value_then n x k (Some (y, m)) = pick (all_zero (drop m x)) (entry_with (fields_with n k y)) None
 
-abbrev pub key_then : List ℕ → List ℕ → KeyRead → EntryRead
-key_then n x kr.Bad = Bad
-key_then n x (kr.Good k) = value_then n x k (value_at x 0)
+abbrev pub key_then : List ℕ → List ℕ → Option Key → Option Entry
+key_then n x None = None
+key_then n x (Some k) = value_then n x k (value_at x 0)
 
 -- what five numbers, the bytes of a key and those of a value are: the tag is a byte, a slot two bytes
-unfoldable pub entry_from : List ℕ → List ℕ → List ℕ → EntryRead
+unfoldable pub entry_from : List ℕ → List ℕ → List ℕ → Option Entry
 entry_from n k x =
-    pick (leb 256 (get_or n 0 0)) Bad (pick (leb 65536 (get_or n 1 0)) Bad (pick (leb 65536 (get_or n 2 0)) Bad (key_then n x (key_at k 0))))
+    pick (leb 256 (get_or n 0 0)) None (pick (leb 65536 (get_or n 1 0)) None (pick (leb 65536 (get_or n 2 0)) None (key_then n x (key_at k 0))))

@@ -1,17 +1,17 @@
-// An entry as fields of a fixed form, for callers outside: five numbers, the bytes of a key, and those of a value.
-// Promises upward: every entry has its fields, fields that are no entry are told from those that are, and an entry is read back from its own.
+//! An entry as fields of a fixed form, for callers outside: five numbers, the bytes of a key, and those of a value.
+//! Promises upward: every entry has its fields, fields that are no entry are told from those that are, and an entry is read back from its own.
 #![tactic(auto)]
 
 ghost use Rattle.std.specs.Prelude.{◌≡◌};
 ghost use Rattle.key.specs.Keys.{key_bytes};
 ghost use Rattle.fields.specs.Forms.{undated, fields_of, numbers_of, value_field, entry_with, entry_from};
 
-use entry::{Entry, EntryRead};
-use key::{KEY_BYTES, Key, KeyRead};
+use entry::Entry;
+use key::{KEY_BYTES, Key};
 use message::{Epoch, Time};
-use value::{VALUE_BYTES, Value, ValueRead};
+use value::{VALUE_BYTES, Value};
 
-// The five numbers, and where each stands.
+/// The five numbers, and where each stands.
 pub const NUMBERS: usize = 5;
 
 const TAG: usize = 0;
@@ -24,13 +24,8 @@ const EPOCH: usize = 3;
 
 const TIME: usize = 4;
 
-// A tag is one byte, a slot is two.
-const TAG_LIMIT: u64 = 256;
-
-const SLOT_LIMIT: u64 = 65536;
-
-// What the ten entries have between them. An entry has 0, the root key or the value none in the place of what it does not have.
-#[derive(Clone, Copy)]
+/// What the ten entries have between them. An entry has 0, the root key or the value none in the place of what it does not have.
+#[derive(Clone, Copy, Debug, PartialEq, Eq)]
 pub struct Fields {
     pub tag: u8,
     pub s: u16,
@@ -56,6 +51,7 @@ fn undated(tag: u8, s: u16, p: u16, key: Key, value: Value) -> Fields
     }
 }
 
+#[tactic(auto, unfolding(crate::specs::Forms::fields_of))]
 pub fn fields_of(e: Entry) -> Fields
     ensures { result ≡ fields_of e }
 {
@@ -99,109 +95,90 @@ pub fn fields_of(e: Entry) -> Fields
     }
 }
 
-// The entry of these fields, by its tag; a field that it does not have is not looked at.
-pub fn entry_with(f: Fields) -> EntryRead
+/// The entry of these fields, by its tag; a field that it does not have is not looked at.
+#[tactic(auto, unfolding(crate::specs::Forms::entry_with))]
+pub fn entry_with(f: Fields) -> Option<Entry>
     ensures { result ≡ entry_with f }
 {
-    let tag = f.tag;
-    let s = f.s;
-    let p = f.p;
-    let key = f.key;
-    let value = f.value;
-    if tag == entry::ADD_TREE_TAG {
-        return EntryRead::Good(Entry::AddTree { s, p, key, value });
-    }
-    if tag == entry::ADD_DEFERRED_TAG {
-        let epoch = f.epoch;
-        let time = f.time;
-        return EntryRead::Good(Entry::AddDeferred {
+    let Fields {
+        tag,
+        s,
+        p,
+        epoch,
+        time,
+        key,
+        value,
+    } = f;
+    match tag {
+        entry::ADD_TREE_TAG => Some(Entry::AddTree { s, p, key, value }),
+        entry::ADD_DEFERRED_TAG => Some(Entry::AddDeferred {
             s,
             epoch,
             time,
             key,
             value,
-        });
+        }),
+        entry::EVICT_TREE_TAG => Some(Entry::EvictTree { s, p }),
+        entry::EVICT_DEFERRED_TAG => Some(Entry::EvictDeferred { s }),
+        entry::EVICT_TREE_DEFERRED_TAG => Some(Entry::EvictTreeDeferred { s, p }),
+        entry::GET_TAG => Some(Entry::Get { s, key, value }),
+        entry::ABSENT_TAG => Some(Entry::Absent { p, key }),
+        entry::PUT_TAG => Some(Entry::Put { s, key, value }),
+        entry::ADVANCE_TAG => Some(Entry::Advance),
+        entry::CLOSE_TAG => Some(Entry::Close),
+        _ => None,
     }
-    if tag == entry::EVICT_TREE_TAG {
-        return EntryRead::Good(Entry::EvictTree { s, p });
-    }
-    if tag == entry::EVICT_DEFERRED_TAG {
-        return EntryRead::Good(Entry::EvictDeferred { s });
-    }
-    if tag == entry::EVICT_TREE_DEFERRED_TAG {
-        return EntryRead::Good(Entry::EvictTreeDeferred { s, p });
-    }
-    if tag == entry::GET_TAG {
-        return EntryRead::Good(Entry::Get { s, key, value });
-    }
-    if tag == entry::ABSENT_TAG {
-        return EntryRead::Good(Entry::Absent { p, key });
-    }
-    if tag == entry::PUT_TAG {
-        return EntryRead::Good(Entry::Put { s, key, value });
-    }
-    if tag == entry::ADVANCE_TAG {
-        return EntryRead::Good(Entry::Advance);
-    }
-    if tag == entry::CLOSE_TAG {
-        return EntryRead::Good(Entry::Close);
-    }
-    EntryRead::Bad
 }
 
-// The entry that five numbers, the bytes of a key and those of a value are, if they are one.
+/// The entry that five numbers, the bytes of a key and those of a value are, if they are one.
+#[tactic(auto, unfolding(crate::specs::Forms::entry_from))]
 pub fn read_fields(
     numbers: &[u64; NUMBERS],
     key: &[u8; KEY_BYTES],
     value: &[u8; VALUE_BYTES],
-) -> EntryRead
+) -> Option<Entry>
     ensures { result ≡ entry_from numbers.now key.now value.now }
 {
-    let tag = numbers[TAG];
-    let s = numbers[S];
-    let p = numbers[P];
-    if TAG_LIMIT <= tag {
-        return EntryRead::Bad;
+    let tag = u8::try_from(numbers[TAG]).ok()?;
+    let s = u16::try_from(numbers[S]).ok()?;
+    let p = u16::try_from(numbers[P]).ok()?;
+    let key = Key::read(key, 0)?;
+    let (x, used) = value::read_value(value, 0)?;
+    if !slot::zero_from(value, used) {
+        return None;
     }
-    if SLOT_LIMIT <= s {
-        return EntryRead::Bad;
-    }
-    if SLOT_LIMIT <= p {
-        return EntryRead::Bad;
-    }
-    let KeyRead::Good(k) = Key::read(key, 0) else {
-        return EntryRead::Bad;
-    };
-    let ValueRead::Good { value: x, used: n } = value::read_value(value, 0) else {
-        return EntryRead::Bad;
-    };
-    if slot::zero_from(value, n) {
-        return entry_with(Fields {
-            tag: tag as u8,
-            s: s as u16,
-            p: p as u16,
-            epoch: Epoch(numbers[EPOCH]),
-            time: Time(numbers[TIME]),
-            key: k,
-            value: x,
-        });
-    }
-    EntryRead::Bad
+    entry_with(Fields {
+        tag,
+        s,
+        p,
+        epoch: Epoch(numbers[EPOCH]),
+        time: Time(numbers[TIME]),
+        key,
+        value: x,
+    })
 }
 
 pub fn numbers_of(f: Fields) -> [u64; NUMBERS]
     ensures { result ≡ numbers_of f }
 {
-    [f.tag as u64, f.s as u64, f.p as u64, f.epoch.0, f.time.0]
+    [
+        u64::from(f.tag),
+        u64::from(f.s),
+        u64::from(f.p),
+        f.epoch.0,
+        f.time.0,
+    ]
 }
 
+#[tactic(auto, using(key::proofs::Laws::key_length, words::proofs::Laws::splice_all))]
 pub fn write_key(k: Key, out: &mut [u8; KEY_BYTES])
     ensures { out.new ≡ key_bytes k }
 {
     k.write(out, 0);
 }
 
-// The value, and then zeros.
+/// The value, and then zeros.
+#[tactic(auto, using(value::proofs::Laws::value_length_lem), unfolding(crate::specs::Forms::value_field))]
 pub fn write_value(x: Value, out: &mut [u8; VALUE_BYTES])
     ensures { out.new ≡ value_field x }
 {

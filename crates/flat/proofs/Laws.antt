@@ -8,6 +8,7 @@ use lib.ListN.{length, get_or, drop, length-append, length-drop}
 use lib.Dec.{eqb}
 use lib.Seq.{get_or_at, drop_at, take-length}
 use borrow.Author.Tests.{eq-eqb, eqb-true}
+use Rattle.std.specs.Prelude.{Option, Some, None}
 use Rattle.words.specs.Numbers.{two_words, zeros, Bytes}
 use Rattle.words.specs.Splices.{part}
 use Rattle.words.proofs.Laws.{bytes_length, zeros_length, number_lt, bytes_back, TwoAt, two_length, two_at, two_back, part_one, part_rest, part_step, picked, never}
@@ -15,15 +16,10 @@ use Rattle.cmac.specs.declared.Tag.{Tag}
 use Rattle.hash.specs.Hashes.{set_bytes}
 use Rattle.hash.proofs.Laws.{set_length}
 use Rattle.state.specs.declared.Tally.{Tally}
-use Rattle.state.specs.declared.Old.{Old}
-use Rattle.state.specs.declared.Old.TheVariants.{Closed, Open}
 use Rattle.state.specs.declared.State.{State}
 use Rattle.slot.specs.Slots.{all_zero}
 use Rattle.slot.proofs.Laws.{all_zero_lem, zero_all}
 use Rattle.flat.specs.Flats.{state_length, tag_bytes, tally_bytes, old_bytes, front_bytes, state_bytes, tag_at, tally_at, old_at, state_of, state_with, state_at, TagFits, TallyFits, OldFits, StateFits}
-use Rattle.flat.specs.declared.OldRead.{OldRead}
-use Rattle.flat.specs.declared.OldRead.TheVariants as oldRead
-use Rattle.flat.specs.declared.StateRead.TheVariants as stateRead
 
 pub tag_length : (g : Tag) → length (tag_bytes g) ≡ 16
 unfolding tag_bytes
@@ -33,10 +29,10 @@ pub tally_length : (t : Tally) → length (tally_bytes t) ≡ 48
 unfolding tally_bytes
 tally_length t = simp (length-append, bytes_length, tag_length)
 
-pub old_length : (o : Old) → length (old_bytes o) ≡ 49
+pub old_length : (o : Option Tally) → length (old_bytes o) ≡ 49
 unfolding old_bytes
-old_length Closed = simp zeros_length
-old_length (Open t) = simp tally_length
+old_length None = simp zeros_length
+old_length (Some t) = simp tally_length
 
 pub front_length : (st : State) → length (front_bytes st) ≡ 32
 unfolding front_bytes
@@ -75,15 +71,15 @@ module _ (t : Tally) (f : TallyFits t) (at : ℕ) (p r : List ℕ) (e : length p
   unfolding tally_at
   tally_back = rw (tally_counts.first, tally_counts.second, tally_adds, tally_evicts)
 
-old_back : (o : Old) → OldFits o → (p : List ℕ) → length p ≡ 80 → old_at (p ++ old_bytes o) ≡ oldRead.Good o
+old_back : (o : Option Tally) → OldFits o → (p : List ℕ) → length p ≡ 80 → old_at (p ++ old_bytes o) ≡ Some o
 unfolding old_at old_bytes
-old_back Closed f p e = rw (get_or_at p 0 (zeros 48) 0 80 e, rest)
+old_back None f p e = rw (get_or_at p 0 (zeros 48) 0 80 e, rest)
   where
     rest : all_zero (drop 81 (p ++ (0 ∷ zeros 48))) ≡ true
     rest =
         ap (λ (l : List ℕ). all_zero (drop 81 l)) (sym (append_assoc p (0 ∷ []) (zeros 48)))
         ∙ ap all_zero (drop_at (p ++ (0 ∷ [])) (zeros 48) 81 (simp length-append (omega arith))) ∙ all_zero_lem 48
-old_back (Open t) f p e =
+old_back (Some t) f p e =
     rw (get_or_at p 1 (tally_bytes t) 0 80 e, ap (λ (l : List ℕ). tally_at l 81) regrouped ∙ tally_back t f 81 (p ++ (1 ∷ [])) [] (simp length-append (omega arith)))
   where
     regrouped : p ++ (1 ∷ tally_bytes t) ≡ (p ++ (1 ∷ [])) ++ (tally_bytes t ++ [])
@@ -106,14 +102,14 @@ module _ (st : State) (f : StateFits st) where
   unfolding state_bytes
   state_tally = tally_back st.tally f.tally 32 (front_bytes st) (old_bytes st.old) (front_length st)
 
-  state_old : old_at (state_bytes st) ≡ oldRead.Good st.old
+  state_old : old_at (state_bytes st) ≡ Some st.old
   unfolding state_bytes
   state_old =
       rw (← append_assoc (front_bytes st) (tally_bytes st.tally) (old_bytes st.old))
       (old_back st.old f.old (front_bytes st ++ tally_bytes st.tally) (simp (length-append, front_length, tally_length)))
 
   -- what is written as a state is read as that state
-  pub state_back : state_at (state_bytes st) ≡ stateRead.Good st
+  pub state_back : state_at (state_bytes st) ≡ Some st
   unfolding state_at
   state_back = rw (eq-eqb (length (state_bytes st)) state_length (state_length_lem st), state_old, state_set.first, state_set.second, state_times.first, state_times.second, state_tally)
 
@@ -142,7 +138,7 @@ module _ (s : List ℕ) (b : Bytes s) where
   tally_fits at = record { adds = number_lt 8 s at b; evicts = number_lt 8 s (at + 8) b; addsum = tag_fits (at + 16); evictsum = tag_fits (at + 32) }
 
   -- an old epoch stands at its place
-  record OldThere (o : Old) : Type 0 where
+  record OldThere (o : Option Tally) : Type 0 where
     bytes : old_bytes o ≡ part s 80 49
     fits : OldFits o
 
@@ -159,22 +155,22 @@ module _ (s : List ℕ) (b : Bytes s) where
         let n : length s - 81 ≡ 48 = omega arith in
         sym (ap (part s 81) (sym n) ∙ part_rest s 81 ∙ zero_all (drop 81 s) z ∙ ap zeros (length-drop 81 s ∙ n))
 
-    old_moved : (x y : Old) → OldThere x → oldRead.Good x ≡ oldRead.Good y → OldThere y
+    old_moved : (x y : Option Tally) → OldThere x → Some x ≡ Some y → OldThere y
     old_moved x y t e = let p : x ≡ y = cc in rw p at t
 
-    old_same : (o : Old) → old_at s ≡ oldRead.Good o → OldThere o
+    old_same : (o : Option Tally) → old_at s ≡ Some o → OldThere o
     unfolding old_at old_bytes
     old_same o e =
         picked (eqb (get_or s 80 0) 0) _ _ _ e
         (λ m q. picked (all_zero (drop 81 s)) _ _ _ q
-        (λ z u. old_moved Closed o (record { bytes = part_step s 80 1 81 48 49 (0 ∷ []) _ (mark_same 0 (eqb-true _ _ m)) (zeros_same z) refl refl; fits = tt }) u)
+        (λ z u. old_moved None o (record { bytes = part_step s 80 1 81 48 49 (0 ∷ []) _ (mark_same 0 (eqb-true _ _ m)) (zeros_same z) refl refl; fits = tt }) u)
         (λ _ u. never cc))
         λ _ q. picked (eqb (get_or s 80 0) 1) _ _ _ q
-        (λ m u. old_moved (Open (tally_at s 81)) o
+        (λ m u. old_moved (Some (tally_at s 81)) o
         (record { bytes = part_step s 80 1 81 48 49 (1 ∷ []) _ (mark_same 1 (eqb-true _ _ m)) (tally_same 81 (omega arith)) refl refl; fits = tally_fits 81 }) u)
         (λ _ u. never cc)
 
-    state_there : (o : Old) → OldThere o → StateThere (state_of s o)
+    state_there : (o : Option Tally) → OldThere o → StateThere (state_of s o)
     unfolding state_bytes front_bytes set_bytes
     state_there o t =
         record {
@@ -193,17 +189,17 @@ module _ (s : List ℕ) (b : Bytes s) where
               };
         }
 
-  there : (st : State) → state_at s ≡ stateRead.Good st → StateThere st
+  there : (st : State) → state_at s ≡ Some st → StateThere st
   unfolding state_at
   there st e = picked (eqb (length s) state_length) _ _ _ e (λ l q. go (eqb-true _ _ l) (old_at s) refl q) (λ _ q. never cc)
     where
-      go : length s ≡ state_length → (r : OldRead) → old_at s ≡ r → state_with s r ≡ stateRead.Good st → StateThere st
-      go h oldRead.Bad p q = never cc
-      go h (oldRead.Good o) p q = let same : state_of s o ≡ st = cc in rw same at (state_there h o (old_same h o p))
+      go : length s ≡ state_length → (r : Option (Option Tally)) → old_at s ≡ r → state_with s r ≡ Some st → StateThere st
+      go h None p q = never cc
+      go h (Some o) p q = let same : state_of s o ≡ st = cc in rw same at (state_there h o (old_same h o p))
 
   -- what is read as a state is written as the same bytes
-  pub state_same : (st : State) → state_at s ≡ stateRead.Good st → state_bytes st ≡ s
+  pub state_same : (st : State) → state_at s ≡ Some st → state_bytes st ≡ s
   state_same st e = (there st e).bytes
 
-  pub state_fits : (st : State) → state_at s ≡ stateRead.Good st → StateFits st
+  pub state_fits : (st : State) → state_at s ≡ Some st → StateFits st
   state_fits st e = (there st e).fits

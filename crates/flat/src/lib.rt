@@ -1,17 +1,17 @@
-// The state as 129 bytes of a fixed layout, for callers outside.
-// Promises upward: bytes that are no state are told from those that are, and a state is written in one way.
+//! The state as 129 bytes of a fixed layout, for callers outside.
+//! Promises upward: bytes that are no state are told from those that are, and a state is written in one way.
 #![tactic(auto)]
 
 ghost use Rattle.std.specs.Prelude.{◌≡◌, ◌+◌, ◌≤◌, length};
+ghost use Rattle.words.specs.Numbers.{two_words};
 ghost use Rattle.words.specs.Splices.{splice};
-ghost use Rattle.hash.specs.Hashes.{set_bytes};
-ghost use Rattle.flat.specs.Flats.{state_length, tag_bytes, tally_bytes, old_bytes, front_bytes, state_bytes, tag_at, tally_at, old_at, state_at, TagFits, TallyFits, OldFits, StateFits};
+ghost use Rattle.flat.specs.Flats.{state_length, tally_bytes, old_bytes, front_bytes, state_bytes, tag_at, tally_at, old_at, state_at, TagFits, TallyFits, OldFits, StateFits};
 
 use cmac::Tag;
 use hash::SetKey;
 use message::{Epoch, Time};
-use state::{Old, State, Tally};
-use words::{put_word, word_at};
+use state::{State, Tally};
+use words::{put_number, read_number};
 
 pub const STATE_BYTES: usize = 129;
 
@@ -28,26 +28,13 @@ const OLD_TALLY: usize = 81;
 
 const TALLY_BYTES: usize = 48;
 
-// What reading an old epoch or a state finds.
-#[derive(Clone, Copy)]
-pub enum OldRead {
-    Good(Old),
-    Bad,
-}
-
-#[derive(Clone, Copy)]
-pub enum StateRead {
-    Good(State),
-    Bad,
-}
-
-// Inner.
-fn put_tag(s: &mut [u8], at: usize, g: Tag)
+// Two words, as a tag and the set key have them. Inner.
+fn put_two(s: &mut [u8], at: usize, a: u64, b: u64)
     requires { at + 16 ≤ length s.old }
-    ensures { s.new ≡ splice s.old at (tag_bytes g) }
+    ensures { s.new ≡ splice s.old at (two_words a b) }
 {
-    put_word(s, at, g.t0);
-    put_word(s, at + 8, g.t1);
+    put_number::<8>(s, at, a);
+    put_number::<8>(s, at + 8, b);
 }
 
 // Inner.
@@ -55,26 +42,24 @@ fn put_tally(s: &mut [u8], at: usize, t: Tally)
     requires { at + 48 ≤ length s.old }
     ensures { s.new ≡ splice s.old at (tally_bytes t) }
 {
-    let a = t.addsum;
-    let e = t.evictsum;
-    put_word(s, at, t.adds);
-    put_word(s, at + 8, t.evicts);
-    put_tag(s, at + 16, a);
-    put_tag(s, at + 32, e);
+    put_number::<8>(s, at, t.adds);
+    put_number::<8>(s, at + 8, t.evicts);
+    put_two(s, at + 16, t.addsum.t0, t.addsum.t1);
+    put_two(s, at + 32, t.evictsum.t0, t.evictsum.t1);
 }
 
 // Inner.
-fn put_old(s: &mut [u8], at: usize, o: Old)
+fn put_old(s: &mut [u8], at: usize, o: Option<Tally>)
     requires { at + 49 ≤ length s.old }
     ensures { s.new ≡ splice s.old at (old_bytes o) }
 {
     match o {
-        Old::Closed => {
+        None => {
             words::put_u8(s, at, 0);
             let b = at + 1;
             slot::clear(&mut s[b..b + TALLY_BYTES]);
         }
-        Old::Open(t) => {
+        Some(t) => {
             words::put_u8(s, at, 1);
             put_tally(s, at + 1, t);
         }
@@ -82,102 +67,81 @@ fn put_old(s: &mut [u8], at: usize, o: Old)
 }
 
 // Inner.
-fn put_set(s: &mut [u8], k: SetKey)
-    requires { 16 ≤ length s.old }
-    ensures { s.new ≡ splice s.old 0 (set_bytes k) }
-{
-    put_word(s, 0, k.k0);
-    put_word(s, 8, k.k1);
-}
-
-// Inner.
 fn put_front(s: &mut [u8], st: State)
     requires { 32 ≤ length s.old }
     ensures { s.new ≡ splice s.old 0 (front_bytes st) }
 {
-    let k = st.set;
-    put_set(s, k);
-    put_word(s, CLOCK, st.clock.0);
-    put_word(s, EPOCH, st.epoch.0);
+    put_two(s, 0, st.set.k0, st.set.k1);
+    put_two(s, CLOCK, st.clock.0, st.epoch.0);
 }
 
-// All of the 129 bytes. Inner.
+/// All of the 129 bytes. Inner.
 pub fn write_state(s: &mut [u8], st: State)
     requires { length s.old ≡ state_length }
     ensures { s.new ≡ state_bytes st }
 {
-    let t = st.tally;
-    let o = st.old;
     put_front(s, st);
-    put_tally(s, TALLY, t);
-    put_old(s, OLD, o);
+    put_tally(s, TALLY, st.tally);
+    put_old(s, OLD, st.old);
 }
 
 // Inner.
+#[tactic(auto, unfolding(crate::specs::Flats::tag_at))]
 fn tag_at(s: &[u8], at: usize) -> Tag
     requires { at + 16 ≤ length s.now }
     ensures { result ≡ tag_at s.now at }
 {
     Tag {
-        t0: word_at(s, at),
-        t1: word_at(s, at + 8),
+        t0: read_number::<8>(s, at),
+        t1: read_number::<8>(s, at + 8),
     }
 }
 
 // Inner.
+#[tactic(auto, unfolding(crate::specs::Flats::tally_at))]
 fn tally_at(s: &[u8], at: usize) -> Tally
     requires { at + 48 ≤ length s.now }
     ensures { result ≡ tally_at s.now at }
 {
-    let a = tag_at(s, at + 16);
-    let e = tag_at(s, at + 32);
     Tally {
-        adds: word_at(s, at),
-        evicts: word_at(s, at + 8),
-        addsum: a,
-        evictsum: e,
+        adds: read_number::<8>(s, at),
+        evicts: read_number::<8>(s, at + 8),
+        addsum: tag_at(s, at + 16),
+        evictsum: tag_at(s, at + 32),
     }
 }
 
 // Inner.
-fn old_at(s: &[u8]) -> OldRead
+#[tactic(auto, unfolding(crate::specs::Flats::old_at))]
+fn old_at(s: &[u8]) -> Option<Option<Tally>>
     requires { length s.now ≡ state_length }
     ensures { result ≡ old_at s.now }
 {
-    let o = s[OLD];
-    if o == 0 {
-        if slot::zero_from(s, OLD_TALLY) {
-            return OldRead::Good(Old::Closed);
-        }
-        return OldRead::Bad;
+    match s[OLD] {
+        0 if slot::zero_from(s, OLD_TALLY) => Some(None),
+        1 => Some(Some(tally_at(s, OLD_TALLY))),
+        _ => None,
     }
-    if o == 1 {
-        return OldRead::Good(Old::Open(tally_at(s, OLD_TALLY)));
-    }
-    OldRead::Bad
 }
 
-// The state that 129 bytes are, if they are one.
-pub fn read_state(s: &[u8]) -> StateRead
+/// The state that 129 bytes are, if they are one.
+#[tactic(auto, unfolding(crate::specs::Flats::state_at))]
+pub fn read_state(s: &[u8]) -> Option<State>
     ensures { result ≡ state_at s.now }
 {
     if s.len() != STATE_BYTES {
-        return StateRead::Bad;
+        return None;
     }
-    let OldRead::Good(o) = old_at(s) else {
-        return StateRead::Bad;
-    };
-    let t = tally_at(s, TALLY);
-    let k = SetKey {
-        k0: word_at(s, 0),
-        k1: word_at(s, 8),
-    };
-    StateRead::Good(State {
-        set: k,
-        clock: Time(word_at(s, CLOCK)),
-        epoch: Epoch(word_at(s, EPOCH)),
-        tally: t,
-        old: o,
+    let old = old_at(s)?;
+    Some(State {
+        set: SetKey {
+            k0: read_number::<8>(s, 0),
+            k1: read_number::<8>(s, 8),
+        },
+        clock: Time(read_number::<8>(s, CLOCK)),
+        epoch: Epoch(read_number::<8>(s, EPOCH)),
+        tally: tally_at(s, TALLY),
+        old,
     })
 }
 
@@ -191,26 +155,22 @@ fn tag_fits(g: Tag)
 fn tally_fits(t: Tally)
     ensures { TallyFits t }
 {
-    let a = t.addsum;
-    let e = t.evictsum;
-    tag_fits(a);
-    tag_fits(e);
+    tag_fits(t.addsum);
+    tag_fits(t.evictsum);
 }
 
-fn old_fits(o: Old)
+fn old_fits(o: Option<Tally>)
     ensures { OldFits o }
 {
     match o {
-        Old::Closed => {}
-        Old::Open(t) => tally_fits(t),
+        None => {}
+        Some(t) => tally_fits(t),
     }
 }
 
 pub fn state_fits(st: State)
     ensures { StateFits st }
 {
-    let t = st.tally;
-    let o = st.old;
-    tally_fits(t);
-    old_fits(o);
+    tally_fits(st.tally);
+    old_fits(st.old);
 }

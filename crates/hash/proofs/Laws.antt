@@ -12,8 +12,7 @@ use Rattle.words.specs.declared.Four.{Four}
 use Rattle.words.proofs.Laws.{bytes_length, TwoAt, two_length, two_at, two_back, splice_all, splice_length, splice_step, take_splice}
 use Rattle.sha256.specs.Sha256.{Hash, sha256, hash_of, hash_bytes}
 use Rattle.sha256.proofs.Laws.{hash_is_bytes}
-use Rattle.value.specs.Values.{digest_at, value_bytes, DigestFits}
-use Rattle.value.specs.declared.Digest.{Digest}
+use Rattle.value.specs.Values.{digest_at, digest_of_four, value_bytes, DigestFits}
 use Rattle.value.specs.declared.Value.{Value}
 use Rattle.value.proofs.Same.{digest_fits}
 use Rattle.hash.specs.Hashes.{digest_of, set_bytes, set_key}
@@ -22,10 +21,10 @@ use Rattle.hash.specs.declared.SetKey.{SetKey}
 -- ---- a hash value as a digest
 
 pub digest_is : (v : Value) (b : List ℕ) (s : Hash) (w : Four) → b ≡ value_bytes v → s ≡ hash_of b → w ≡ four_at (hash_bytes s) 0
-    → ◌≡◌ {A = Digest} (record { d0 = w.first; d1 = w.second; d2 = w.third; d3 = w.fourth }) (digest_of v)
+    → digest_of_four w ≡ digest_of v
 unfolding digest_of sha256 digest_at four_at
 digest_is v b s w p q r =
-    ap (λ (x : Four). record { d0 = x.first; d1 = x.second; d2 = x.third; d3 = x.fourth }) (r ∙ ap (λ (h : Hash). four_at (hash_bytes h) 0) (q ∙ ap hash_of p))
+    ap digest_of_four (r ∙ ap (λ (h : Hash). four_at (hash_bytes h) 0) (q ∙ ap hash_of p))
 
 -- a digest is bytes, and as words it fits its fields
 pub sha_bytes : (m : List ℕ) → Bytes (sha256 m)

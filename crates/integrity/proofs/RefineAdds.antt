@@ -1,4 +1,5 @@
 -- Refinement of entries 1 (add from tree) and 2 (add deferred).
+use Rattle.std.specs.Prelude.{Option, Some, None}
 use mathlib.Core.Path.{◌≡◌, refl, sym, ◌∙◌, ap, subst}
 use mathlib.Core.Bool.{Bool, true, false, cond}
 use mathlib.Core.Option.{none, some}
@@ -34,8 +35,6 @@ use Rattle.cache.specs.Caches.{slot_in, count, put_slot, held}
 use Rattle.cache.proofs.Slots.{splice_bytes}
 use Rattle.state.specs.States.{count_limit, added_current, added_old}
 use Rattle.state.specs.declared.Tally.{Tally}
-use Rattle.state.specs.declared.Old as old
-use Rattle.state.specs.declared.Old.TheVariants.{Closed, Open}
 use Rattle.state.specs.declared.State.{State}
 use Rattle.rules.specs.Outcomes.{refuses, accepts}
 use Rattle.rules.specs.Adds.{linked, between, add_side, add_link, add_node, add_to, add_under, add_at, add_tree, named_old, named_epoch, add_message, in_time, add_counted, add_named, add_into, defer_at, add_deferred}
@@ -211,7 +210,7 @@ module _ (key : SetKey) (st : State) (c : List ℕ) (t : Lane) (R : Stands key s
     unfolding named_epoch added_current added_old
     by_name e = now (eqb e₂.0 st.epoch.0) refl e
       where
-        before : (T : Tally) → st.old ≡ Open T → (b : Bool) → eqb e₂.0 (st.epoch.0 - 1) ≡ b → add_named s e₂ t₂ k x st c (pick b (named.Old T) named.NotOpen) ≡ accepts st' c'
+        before : (T : Tally) → st.old ≡ Some T → (b : Bool) → eqb e₂.0 (st.epoch.0 - 1) ≡ b → add_named s e₂ t₂ k x st c (pick b (Some (named.Old T)) None) ≡ accepts st' c'
             → Done (AddDeferred s e₂ t₂ k x)
         before T w false q e = stop key st c t R st' c' epoch_not_open refl e
         before T w true q e = in_time_lem T.adds (added_old st T (tag_of st.set msg)) e λ l e. was R.tallies.olds l e
@@ -223,11 +222,11 @@ module _ (key : SetKey) (st : State) (c : List ℕ) (t : Lane) (R : Stands key s
                 let p : suc e₂.0 ≡ t.epoch = let z = eqb-true e₂.0 (st.epoch.0 - 1) q in let y = R.tallies.epochs in omega arith in
                 counted (added_old st T) (λ g. refl) (older b p) l (tallies_add_old key R.tallies msg T w p) e
 
-        by_old : (z : old.Old) → st.old ≡ z → add_named s e₂ t₂ k x st c (named_old e₂ st.epoch z) ≡ accepts st' c' → Done (AddDeferred s e₂ t₂ k x)
-        by_old Closed w e = stop key st c t R st' c' epoch_not_open refl e
-        by_old (Open T) w e = before T w (eqb e₂.0 (st.epoch.0 - 1)) refl e
+        by_old : (z : Option Tally) → st.old ≡ z → add_named s e₂ t₂ k x st c (named_old e₂ st.epoch z) ≡ accepts st' c' → Done (AddDeferred s e₂ t₂ k x)
+        by_old None w e = stop key st c t R st' c' epoch_not_open refl e
+        by_old (Some T) w e = before T w (eqb e₂.0 (st.epoch.0 - 1)) refl e
 
-        now : (b : Bool) → eqb e₂.0 st.epoch.0 ≡ b → add_named s e₂ t₂ k x st c (pick b named.Current (named_old e₂ st.epoch st.old)) ≡ accepts st' c'
+        now : (b : Bool) → eqb e₂.0 st.epoch.0 ≡ b → add_named s e₂ t₂ k x st c (pick b (Some named.Current) (named_old e₂ st.epoch st.old)) ≡ accepts st' c'
             → Done (AddDeferred s e₂ t₂ k x)
         now true q e = in_time_lem st.tally.adds (added_current st (tag_of st.set msg)) e λ l e.
             let p : e₂.0 ≡ t.epoch = eqb-true _ _ q ∙ R.tallies.epochs in

@@ -1,4 +1,5 @@
 -- Refinement of entries 9 (advance) and 10 (close).
+use Rattle.std.specs.Prelude.{Option, Some, None}
 use mathlib.Core.Path.{◌≡◌, refl, sym, ◌∙◌, ap}
 use mathlib.Core.Bool.{true, false, true≢false}
 use mathlib.Core.List.{List}
@@ -15,13 +16,10 @@ use Rattle.entry.specs.declared.Entry.TheVariants.{Advance, Close}
 use Rattle.hash.specs.declared.SetKey.{SetKey}
 use Rattle.state.specs.States.{epoch_limit, advanced_state, closed_state}
 use Rattle.state.specs.declared.Tally.{Tally}
-use Rattle.state.specs.declared.Old as old
-use Rattle.state.specs.declared.Old.TheVariants.{Closed, Open}
 use Rattle.state.specs.declared.State.{State}
-use Rattle.rules.specs.Outcomes.{Outcome, outcome, gives, accepts}
+use Rattle.rules.specs.Outcomes.{Done as Entered, Outcome, outcome, gives, accepts}
 use Rattle.rules.specs.Epochs as rules
 use Rattle.rules.specs.Epochs.{advance_old, close_old}
-use Rattle.rules.specs.declared.Done as done
 use Rattle.integrity.proofs.Lane as lane
 use Rattle.integrity.proofs.Lane.{Lane}
 use Rattle.integrity.proofs.Tallies.{OldIs, no_old, is_old, tallies_close, tallies_advance}
@@ -33,13 +31,13 @@ module _ (key : SetKey) (st : State) (c : List ℕ) (t : Lane) (R : Stands key s
   Shown x = Refined key x st c st' c' t
 
   stop : {C : Type 0} (n : ℕ) → eqb n 0 ≡ false → gives n st ≡ gives accepted st' → C
-  stop n z e = absurd (true≢false (sym (eq-eqb n 0 (ap (λ (d : done.Done). d.verdict) e)) ∙ z))
+  stop n z e = absurd (true≢false (sym (eq-eqb n 0 (ap (λ (d : Entered). d.verdict) e)) ∙ z))
 
   -- the parts of an accepted outcome
-  state_of_lem : (d : done.Done) → outcome d c ≡ accepts st' c' → d ≡ gives accepted st'
+  state_of_lem : (d : Entered) → outcome d c ≡ accepts st' c' → d ≡ gives accepted st'
   state_of_lem d e = ap (λ (o : Outcome). o.done) e
 
-  whole : (σ : State) (d : done.Done) → outcome d c ≡ accepts st' c' → gives accepted σ ≡ gives accepted st' → accepts σ c ≡ accepts st' c'
+  whole : (σ : State) (d : Entered) → outcome d c ≡ accepts st' c' → gives accepted σ ≡ gives accepted st' → accepts σ c ≡ accepts st' c'
   whole σ d e g = ap (λ y. outcome y c) g ∙ ap (λ y. outcome (gives accepted st') y) (ap (λ (o : Outcome). o.bytes) e)
 
   -- ---- 9
@@ -48,9 +46,9 @@ module _ (key : SetKey) (st : State) (c : List ℕ) (t : Lane) (R : Stands key s
   unfolding rules.advance advanced_state
   refine_advance e = go st.old refl (state_of_lem _ e)
     where
-      go : (o : old.Old) → st.old ≡ o → advance_old st o ≡ gives accepted st' → Shown Advance
-      go (Open T) w f = stop wrong_moment refl f
-      go Closed w f = picked (leb epoch_limit st.epoch.0) _ _ _ f (λ _ g. stop epoch_full refl g) λ _ g.
+      go : (o : Option Tally) → st.old ≡ o → advance_old st o ≡ gives accepted st' → Shown Advance
+      go (Some T) w f = stop wrong_moment refl f
+      go None w f = picked (leb epoch_limit st.epoch.0) _ _ _ f (λ _ g. stop epoch_full refl g) λ _ g.
           refines.done key st c t R st' c' Advance _ _
           (lane.advance (elim R.tallies.olds [ no_old a b ↦ b | is_old U i a b q d ↦ absurd (let z : ◌≡◌ {A = ℕ} 0 1 = cc in omega arith) ]))
           (whole (advanced_state st) _ e g)
@@ -63,16 +61,16 @@ module _ (key : SetKey) (st : State) (c : List ℕ) (t : Lane) (R : Stands key s
   unfolding rules.close closed_state
   refine_close e = go st.old refl (state_of_lem _ e) R.tallies.olds
     where
-      go : (o : old.Old) → st.old ≡ o → close_old st o ≡ gives accepted st' → OldIs key st.old t.old t.epoch t.evs t.ads → Shown Close
-      go Closed w f z = stop wrong_moment refl f
-      go (Open T) w f (no_old a b) = absurd (let z : ◌≡◌ {A = ℕ} 0 1 = cc in omega arith)
-      go (Open T) w f (is_old U i a b q d) =
+      go : (o : Option Tally) → st.old ≡ o → close_old st o ≡ gives accepted st' → OldIs key st.old t.old t.epoch t.evs t.ads → Shown Close
+      go None w f z = stop wrong_moment refl f
+      go (Some T) w f (no_old a b) = absurd (let z : ◌≡◌ {A = ℕ} 0 1 = cc in omega arith)
+      go (Some T) w f (is_old U i a b q d) =
           picked (eqb T.adds T.evicts) _ _ _ f
           (λ n f. picked (tag_eq T.addsum T.evictsum) _ _ _ f (λ s g. last n s (whole (closed_state st) _ e g)) (λ s g. stop sums_differ refl g))
           (λ n f. stop counts_differ refl f)
         where
           same : U ≡ T
-          same = let h : Open U ≡ Open T = sym a ∙ w in cc
+          same = let h : Some U ≡ Some T = sym a ∙ w in cc
 
           last : eqb T.adds T.evicts ≡ true → tag_eq T.addsum T.evictsum ≡ true → accepts (closed_state st) c ≡ accepts st' c' → Shown Close
           last n s e =

@@ -1,4 +1,5 @@
 -- The last epoch settled: a state has it as its lane has, it never falls, and an epoch that was closed is not above it.
+use Rattle.std.specs.Prelude.{Option, Some, None}
 use mathlib.Core.Path.{◌≡◌, refl, sym, ◌∙◌, ap, subst}
 use mathlib.Core.Bool.{Bool, true, false}
 use mathlib.Core.Option.{some, none-ne-some, some-injective}
@@ -16,8 +17,7 @@ use Rattle.hash.specs.Hashes.{set_key}
 use Rattle.hash.specs.declared.SetKey.{SetKey}
 use Rattle.cache.specs.Caches.{opened_cache}
 use Rattle.state.specs.States.{closed_state, fresh_state, settled}
-use Rattle.state.specs.declared.Old as old
-use Rattle.state.specs.declared.Old.TheVariants.{Closed, Open}
+use Rattle.state.specs.declared.Tally.{Tally}
 use Rattle.state.specs.declared.State.{State}
 use Rattle.rules.specs.Outcomes.{Outcome, outcome, gives, accepts}
 use Rattle.rules.specs.Epochs as rules
@@ -49,9 +49,9 @@ close_settles st c σ d e = go st.old e
     closed : accepts (closed_state st) c ≡ accepts σ d → settled σ ≡ st.epoch.0 - 1
     closed q = ap settled (sym (ap (λ (o : Outcome). o.done.state) q)) ∙ unfold settled closed_state in refl
 
-    go : (o : old.Old) → outcome (close_old st o) c ≡ accepts σ d → settled σ ≡ st.epoch.0 - 1
-    go Closed q = never wrong_moment st c refl q
-    go (Open T) q = counts (eqb T.adds T.evicts) (tag_eq T.addsum T.evictsum) q
+    go : (o : Option Tally) → outcome (close_old st o) c ≡ accepts σ d → settled σ ≡ st.epoch.0 - 1
+    go None q = never wrong_moment st c refl q
+    go (Some T) q = counts (eqb T.adds T.evicts) (tag_eq T.addsum T.evictsum) q
       where
         counts : (a b : Bool) → outcome (pick a (pick b (gives accepted (closed_state st)) (gives sums_differ st)) (gives counts_differ st)) c ≡ accepts σ d → settled σ ≡ st.epoch.0 - 1
         counts false b q = never counts_differ st c refl q

@@ -1,5 +1,6 @@
 -- Refinement, part of the state: tags under xor are a group as part 1 wants it, and the counts and sums that the state keeps are those of the
 -- messages.
+use Rattle.std.specs.Prelude.{Option, Some, None}
 use mathlib.Core.Path.{◌≡◌, refl, ◌∙◌, ap, subst}
 use mathlib.Core.Logic.{◌≢◌}
 use mathlib.Core.Bool.{Bool, true, false}
@@ -16,8 +17,6 @@ use Rattle.hash.specs.Hashes.{tag_of}
 use Rattle.hash.specs.declared.SetKey.{SetKey}
 use Rattle.state.specs.States.{tally_add, tally_evict, added_current, added_old, evicted_state, advanced_state, closed_state}
 use Rattle.state.specs.declared.Tally.{Tally}
-use Rattle.state.specs.declared.Old as old
-use Rattle.state.specs.declared.Old.TheVariants.{Closed, Open}
 use Rattle.state.specs.declared.State.{State}
 use Rattle.integrity.specs.Statement.{of_epoch, xor_tags}
 use Rattle.integrity.proofs.Counting.{Xor, sum}
@@ -42,9 +41,9 @@ module _ (set : SetKey) where
     pub addsum : T.addsum ≡ tag_sum (of_epoch i ads)
     pub evictsum : T.evictsum ≡ tag_sum (of_epoch i evs)
 
-  pub data OldIs (o : old.Old) (isopen : Bool) (epoch : ℕ) (evs ads : List Message) : Type 0 where
-    no_old : o ≡ Closed → isopen ≡ false → OldIs o isopen epoch evs ads
-    is_old : (T : Tally) (e : ℕ) → o ≡ Open T → isopen ≡ true → suc e ≡ epoch → Tallied T e evs ads → OldIs o isopen epoch evs ads
+  pub data OldIs (o : Option Tally) (isopen : Bool) (epoch : ℕ) (evs ads : List Message) : Type 0 where
+    no_old : o ≡ None → isopen ≡ false → OldIs o isopen epoch evs ads
+    is_old : (T : Tally) (e : ℕ) → o ≡ Some T → isopen ≡ true → suc e ≡ epoch → Tallied T e evs ads → OldIs o isopen epoch evs ads
 
   -- a state is that of a clock, an epoch, whether an old one is open, and the messages; no message is of an epoch yet to come
   pub record Tallies (st : State) (clock epoch : ℕ) (isopen : Bool) (evs ads : List Message) : Type 0 where
@@ -121,7 +120,7 @@ module _ (set : SetKey) where
       none_ahead = λ e h. (of_other e m ads (omega arith) ∙ (S.none_ahead e h).0, (S.none_ahead e h).1);
     }
 
-    pub tallies_add_old : (m : Message) (T : Tally) → st.old ≡ Open T → suc m.epoch.0 ≡ epoch → Tallies (added_old st T (tag_of set m)) clock epoch isopen evs (m ∷ ads)
+    pub tallies_add_old : (m : Message) (T : Tally) → st.old ≡ Some T → suc m.epoch.0 ≡ epoch → Tallies (added_old st T (tag_of set m)) clock epoch isopen evs (m ∷ ads)
     unfolding added_old
     tallies_add_old m T q h = record {
       clocks = S.clocks;

@@ -7,7 +7,7 @@
 --   together, are not none and their tags xor to zero.
 --
 -- Demand3, near the end, is the demand; proofs/Demand3 proves it. The step is that of demand 2 (crate rules), on bytes.
-use Rattle.std.specs.Prelude.{ℕ, zero, suc, ◌≤◌, ◌≡◌, ◌⊎◌, ◌≢◌, take, drop, eqb}
+use Rattle.std.specs.Prelude.{ℕ, zero, suc, ◌≤◌, ◌≡◌, ◌⊎◌, ◌≢◌, take, drop, eqb, Ok, Err}
 use Rattle.std.proofs.Math.Option.{Option, none, some}
 use mathlib.Core.List.{List, [], ◌∷◌, ◌++◌, Memᴰ}
 use Rattle.words.specs.Choice.{pick}
@@ -23,11 +23,10 @@ use Rattle.value.specs.declared.Value.{Value}
 use Rattle.value.specs.declared.Value.TheVariants.{None}
 use Rattle.message.specs.Messages.{message_bytes}
 use Rattle.message.specs.declared.Message.{Message}
-use Rattle.entry.specs.Entries.{read_entry}
+use Rattle.entry.specs.Entries.{Reading, read_entry}
 use Rattle.entry.specs.declared.Entry.{Entry}
 use Rattle.entry.specs.declared.Entry.TheVariants.{AddTree, AddDeferred, EvictTree, EvictDeferred, EvictTreeDeferred, Get, Absent, Put, Advance, Close}
-use Rattle.entry.specs.declared.Reading.{Reading}
-use Rattle.entry.specs.declared.Reading.TheVariants as reading
+use Rattle.entry.specs.declared.Unread.TheVariants as unread
 use Rattle.hash.specs.Hashes.{set_key, tag_of}
 use Rattle.hash.specs.declared.SetKey.{SetKey}
 use Rattle.slot.specs.Slots.{slot_length, slot_at}
@@ -66,9 +65,9 @@ run m (w ∷ ws) = run (after m w) ws
 -- ---- "accepted": the entry that an input was read as, none where it was refused
 
 abbrev pub entry_in : Reading → Option Entry
-entry_in reading.Short = none
-entry_in (reading.Malformed n) = none
-entry_in (reading.Good e n) = some e
+entry_in (Err unread.Short) = none
+entry_in (Err (unread.Malformed n)) = none
+entry_in (Ok (e, n)) = some e
 
 abbrev pub taken : Moment → List ℕ → Option Entry
 taken m w = pick (eqb (step_at m w).result.verdict accepted) (entry_in (read_entry w)) none

@@ -6,7 +6,7 @@ use Rattle.words.specs.Numbers.{number_at, bytes_of, zeros}
 use Rattle.key.specs.Keys.{key_at, key_bytes, raw_key, well_key, clean, root_key, data_key, above, same_top, toward, bit_at}
 use Rattle.key.specs.Bits.{first_bits, bits}
 use Rattle.key.specs.declared.Key.{Key}
-use Rattle.key.specs.declared.KeyRead.TheVariants.{Good, Bad}
+use Rattle.std.specs.Prelude.{Some, None}
 
 Z : Key
 Z = data_key 0 0 0 0
@@ -26,17 +26,17 @@ one_bytes : key_bytes one ≡ 0 ∷ 1 ∷ 128 ∷ zeros 31
 unfolding one key_bytes bytes_of zeros
 one_bytes = refl
 
-one_read : key_at (0 ∷ 1 ∷ 128 ∷ zeros 31) 0 ≡ Good one
+one_read : key_at (0 ∷ 1 ∷ 128 ∷ zeros 31) 0 ≡ Some one
 unfolding one key_at raw_key well_key clean number_at zeros
 one_read = refl
 
 -- a second bit set, past the length
-one_dirty : key_at (0 ∷ 1 ∷ 192 ∷ zeros 31) 0 ≡ Bad
+one_dirty : key_at (0 ∷ 1 ∷ 192 ∷ zeros 31) 0 ≡ None
 unfolding key_at raw_key well_key clean number_at zeros
 one_dirty = refl
 
 -- 257 bits
-too_long : key_at (1 ∷ 1 ∷ zeros 32) 0 ≡ Bad
+too_long : key_at (1 ∷ 1 ∷ zeros 32) 0 ≡ None
 unfolding key_at raw_key well_key clean number_at zeros
 too_long = refl
 

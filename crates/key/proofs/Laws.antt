@@ -2,7 +2,7 @@
 use Prim.Native.Nat.{ℕ, ◌+◌, ◌*◌, ◌-◌, ◌%◌, ◌^◌, ◌≤◌, ◌<◌}
 use mathlib.Core.Path.{◌≡◌, refl, ap, sym, ◌∙◌}
 use mathlib.Core.List.{List, [], ◌++◌, append_assoc}
-use mathlib.Core.Bool.{true, false}
+use mathlib.Core.Bool.{true}
 use native.Mathlib.Nat.{div-eq_of_lt, div-one, mod-one, mod-eq_of_lt, sub-eq-zero_of_le, one-mul, add_assoc}
 use native.Mathlib.Omega.{arith}
 use lib.ListN.{length, length-append}
@@ -15,7 +15,7 @@ use Rattle.words.specs.Splices.{part}
 use Rattle.words.proofs.Laws.{bytes_length, number_at_lem, number_lt, bytes_back, part_join, four_length, four_at_lem, four_back, four_bytes, append_bytes, number_bytes, both_true, picked, never}
 use Rattle.key.specs.Keys.{key_at, raw_key, data_at, root_key, data_key, is_data, well_key, key_bytes, data_bytes, KeyFits, key_eq, same_top, clean}
 use Rattle.key.specs.declared.Key.{Key}
-use Rattle.key.specs.declared.KeyRead.TheVariants.{Good, Bad}
+use Rattle.std.specs.Prelude.{Some, None}
 
 -- ---- the tests on words at their ends, where the machine has no shift for them
 
@@ -46,14 +46,6 @@ pub raw_join : (s : List ℕ) (at n : ℕ) (d : Key) → d ≡ data_at s (at + 2
     → ◌≡◌ {A = Key} (record { len = n; w0 = d.w0; w1 = d.w1; w2 = d.w2; w3 = d.w3 }) (raw_key s at)
 unfolding raw_key data_at
 raw_join s at n d p q = rw (p, q, add_assoc at 2 8, add_assoc at 2 16, add_assoc at 2 24)
-
-pub key_at_good : (s : List ℕ) (at : ℕ) (k : Key) → k ≡ raw_key s at → true ≡ well_key k → Good k ≡ key_at s at
-unfolding key_at
-key_at_good s at k e w = rw (← e, ← w)
-
-pub key_at_bad : (s : List ℕ) (at : ℕ) (k : Key) → k ≡ raw_key s at → false ≡ well_key k → Bad ≡ key_at s at
-unfolding key_at
-key_at_bad s at k e w = rw (← e, ← w)
 
 -- ---- a key is its parts
 
@@ -136,11 +128,11 @@ module _ (k : Key) (fits : KeyFits k) (at : ℕ) (p r : List ℕ) (e : length p 
       (sym (number_at_lem 2 k.len at p (data_bytes k ++ r) e fits.len))))
 
   -- what is written as a key is read as that key where it is well formed, and as none where it is not
-  pub key_read : key_at (p ++ (key_bytes k ++ r)) at ≡ pick (well_key k) (Good k) Bad
+  pub key_read : key_at (p ++ (key_bytes k ++ r)) at ≡ pick (well_key k) (Some k) None
   unfolding key_at
   key_read = rw raw_back
 
-  pub key_back : well_key k ≡ true → key_at (p ++ (key_bytes k ++ r)) at ≡ Good k
+  pub key_back : well_key k ≡ true → key_at (p ++ (key_bytes k ++ r)) at ≡ Some k
   key_back w = key_read ∙ rw w
 
 pub data_fits : (s : List ℕ) (at : ℕ) → Bytes s → KeyFits (data_at s at)
@@ -171,7 +163,7 @@ raw_fits s at b =
       w3 = number_lt 8 s (at + 26) b;
     }
 
-module _ (s : List ℕ) (at : ℕ) (k : Key) (e : key_at s at ≡ Good k) where
+module _ (s : List ℕ) (at : ℕ) (k : Key) (e : key_at s at ≡ Some k) where
   -- a key that is read is what the bytes say, and well formed
   key_raw : (raw_key s at ≡ k) × (well_key (raw_key s at) ≡ true)
   unfolding key_at

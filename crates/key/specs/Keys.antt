@@ -1,11 +1,9 @@
 -- A key's words, its 34 bytes, and the tests on keys (document 01, "Keys, values, messages"). What the tests say of the
 -- bits themselves is in Bits.
-use Rattle.std.specs.Prelude.{ℕ, ◌+◌, ◌-◌, ◌/◌, ◌%◌, ◌^◌, ◌<◌, List, ◌++◌, Bool, ltb, leb, eqb}
+use Rattle.std.specs.Prelude.{ℕ, ◌+◌, ◌-◌, ◌/◌, ◌%◌, ◌^◌, ◌<◌, List, ◌++◌, Bool, Option, Some, None, ltb, leb, eqb}
 use Rattle.words.specs.Choice.{pick, both}
 use Rattle.words.specs.Numbers.{number_at, bytes_of, four_words}
 use Rattle.key.specs.declared.Key.{Key}
-use Rattle.key.specs.declared.KeyRead.{KeyRead}
-use Rattle.key.specs.declared.KeyRead.TheVariants.{Good, Bad}
 
 -- the widest length, that of a data key
 abbrev pub widest : ℕ
@@ -55,8 +53,8 @@ raw_key s at =
       w3 = number_at 8 s (at + 26);
     }
 
-unfoldable pub key_at : List ℕ → ℕ → KeyRead
-key_at s at = pick (well_key (raw_key s at)) (Good (raw_key s at)) Bad
+unfoldable pub key_at : List ℕ → ℕ → Option Key
+key_at s at = pick (well_key (raw_key s at)) (Some (raw_key s at)) None
 
 -- a data key's 32 bytes, with no length before them
 unfoldable pub data_at : List ℕ → ℕ → Key

@@ -1,6 +1,6 @@
-// The program: the set key from `set.key`, the log from standard input, its listing to standard output (document 01, "The program and
-// its listing").
-// Only this reads and writes; that what it does is safe and ends is proved, and the text that it writes is the listing's own promise.
+//! The program: the set key from `set.key`, the log from standard input, its listing to standard output (document 01, "The program and
+//! its listing").
+//! Only this reads and writes; that what it does is safe and ends is proved, and the text that it writes is the listing's own promise.
 #![tactic(auto)]
 
 ghost use Rattle.std.specs.Io.{ReadsAtMost};
@@ -17,16 +17,11 @@ const KEY_BYTES: usize = 16;
 // Room for a log and one byte more, by which a longer one shows.
 const LOG_ROOM: usize = LOG_LIMIT + 1;
 
-fn log_room() -> [u8; LOG_ROOM]
-    ensures { 65537 ≡ length result }
+// A buffer, of which no more is said than its length.
+fn room<const N: usize>() -> [u8; N]
+    ensures { N ≡ length result }
 {
-    [0; LOG_ROOM]
-}
-
-fn text_room() -> [u8; TEXT_ROOM]
-    ensures { 1048576 ≡ length result }
-{
-    [0; TEXT_ROOM]
+    [0; N]
 }
 
 // Reads until to is full or from has ended; how many bytes, which are at the front of to.
@@ -44,33 +39,27 @@ fn read_full<R: Read>(from: &mut R, to: &mut [u8]) -> io::Result<usize>
     Ok(done)
 }
 
-// Whether `set.key` is there and has 16 bytes, which are then in key. A seventeenth shows by a second read.
-fn read_key<R: Files>(files: &R, key: &mut [u8; KEY_BYTES]) -> bool {
-    let Ok(mut file) = File::open(files, "set.key") else {
-        return false;
-    };
-    let mut more = [0u8; 1];
-    let Ok(n) = read_full(&mut file, key) else {
-        return false;
-    };
-    let Ok(past) = read_full(&mut file, &mut more) else {
-        return false;
-    };
-    n == KEY_BYTES && past == 0
+// The 16 bytes of `set.key`, if it is there and has no other length. A seventeenth shows by a second read.
+fn read_key<R: Files>(files: &R) -> Option<[u8; KEY_BYTES]> {
+    let mut file = File::open(files, "set.key").ok()?;
+    let mut key = [0; KEY_BYTES];
+    let mut more = [0; 1];
+    let n = read_full(&mut file, &mut key).ok()?;
+    let past = read_full(&mut file, &mut more).ok()?;
+    (n == KEY_BYTES && past == 0).then_some(key)
 }
 
 // The key is looked at first.
 fn main(rt: HostRuntime) -> io::Result<()> {
-    let mut key = [0u8; KEY_BYTES];
-    if !read_key(&rt, &mut key) {
+    let Some(key) = read_key(&rt) else {
         return rt.write_all(b"bad key\n");
-    }
-    let mut log = log_room();
+    };
+    let mut log = room::<LOG_ROOM>();
     let n = read_full(&mut rt.reader(), &mut log)?;
     if LOG_LIMIT < n {
         return rt.write_all(b"log too long\n");
     }
-    let mut out = text_room();
+    let mut out = room::<TEXT_ROOM>();
     let end = listing::list(&key, &log[..n], &mut out);
     rt.write_all(&out[..end])
 }

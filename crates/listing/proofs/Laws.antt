@@ -2,22 +2,23 @@
 use Prim.Native.Nat.{ℕ, zero, suc, ◌+◌, ◌-◌, ◌≤◌, ◌<◌}
 use mathlib.Core.Path.{◌≡◌, refl, ap, sym, ◌∙◌}
 use mathlib.Core.List.{List, ◌++◌}
-use mathlib.Core.Bool.{true, false}
+use mathlib.Core.Bool.{true, false, true≢false}
 use native.Mathlib.Nat.{sub-zero}
 use native.Mathlib.Omega.{arith}
 use lib.ListN.{length, get_or, drop, length-append}
 use lib.Seq.{length-take-le}
-use borrow.Author.Tests.{lt-leb, le-leb}
+use borrow.Author.Tests.{lt-leb, le-leb, eq-eqb}
 use Rattle.words.specs.Splices.{splice}
-use Rattle.verdict.specs.Verdicts.{accepted}
+use Rattle.std.specs.Prelude.{Err}
+use Rattle.verdict.specs.Verdicts.{accepted, number}
+use Rattle.verdict.specs.declared.Refusal.{Refusal}
+use Rattle.run.proofs.Laws.{refused_uncounted}
 use Rattle.words.proofs.Laws.{true_both}
 use Rattle.cache.specs.Caches.{well_length, well_cache, opened_cache}
-use Rattle.state.specs.States.{Opening, opening, open_def, fresh_state, settled, well_state}
+use Rattle.state.specs.States.{Opened, opened, Opening, opening, open_def, fresh_state, settled, well_state}
 use Rattle.state.proofs.Laws.{open_well_state, open_well_cache, open_well_length}
 use Rattle.state.specs.declared.State.{State}
-use Rattle.state.specs.declared.Opened.{Opened}
-use Rattle.rules.specs.declared.Stepped.{Stepped}
-use Rattle.rules.specs.Steps.{stepped, step}
+use Rattle.rules.specs.Steps.{stepped, step, Stepped}
 use Rattle.rules.specs.Runs.{halts, sound}
 use Rattle.text.specs.Text.{line_text, slots_text, end_text}
 use Rattle.text.proofs.Laws.{Stored, stored_rest}
@@ -84,6 +85,18 @@ module _ (log x₀ : List ℕ) (k₀ at n : ℕ) (st : State) (c : List ℕ) (po
         let q : row_then (rows_from (length log - (n + 1)) log) log at n (stepped r c') ≡ row ++ end_text (settled r.state) at = rw f in
         (w.0 ∙ rest_count _ q, w.1 ∙ rest_bytes _ q)
 
+-- the same turn, as the code has its verdict and its state: v and u are those of r
+module _ (log x₀ : List ℕ) (k₀ at n : ℕ) (st : State) (c : List ℕ) (pos : ℕ) (out : List ℕ) (left : Left log x₀ k₀ at n st c pos out)
+    (r : Stepped) (c' : List ℕ) (e : stepped r c' ≡ step (drop at log) st c) (h : at < length log) (g : n < length log)
+    (v : ℕ) (u : State) (ev : v ≡ r.verdict) (eu : u ≡ r.state) (p : ℕ) (y : List ℕ)
+    (fits : pos + length (line_text (n + 1) (get_or log at 0) v u.epoch.0) ≤ length out)
+    (s : Stored out pos (line_text (n + 1) (get_or log at 0) v u.epoch.0) p y) where
+  pub row_on : halts v ≡ false → Left log x₀ k₀ (at + r.used) (n + 1) u c' p y
+  row_on f = rw eu (left_on log x₀ k₀ at n st c pos out left r c' e h g p y (rw (ev, eu) at fits) (rw (ev, eu) at s) (rw ev at f))
+
+  pub row_stop : halts v ≡ true → (k : ℕ) (x : List ℕ) → Stored y p (end_text (settled u) at) k x → (k ≡ k₀) × (x ≡ x₀)
+  row_stop f k x w = left_stop log x₀ k₀ at n st c pos out left r c' e h g p y (rw (ev, eu) at fits) (rw (ev, eu) at s) (rw ev at f) k x (rw eu at w)
+
 -- ---- four slots, opened
 
 four_opened : (key c : List ℕ) → length c ≡ 768 → open_def key c ≡ opening (record { verdict = accepted; state = fresh_state key }) (opened_cache 3)
@@ -93,6 +106,12 @@ four_opened key c e = rw e
 four_well : (c : List ℕ) → length c ≡ 768 → well_length c ≡ true
 unfolding well_length
 four_well c e = rw e
+
+-- opening them is not refused
+pub four_open : (key c d : List ℕ) (r : Refusal) → opening (opened (Err r)) c ≡ open_def key d → length d ≡ 768 → ⊥
+four_open key c d r e n =
+    let q : number r ≡ accepted = ap (λ (x : Opening). x.answer.verdict) (e ∙ four_opened key d n) in
+    true≢false (sym (eq-eqb (number r) accepted q) ∙ refused_uncounted r)
 
 -- neither 28 nor 1 applies to them
 pub four_sound : (key c d : List ℕ) (o : Opened) → opening o c ≡ open_def key d → length d ≡ 768 → sound o.state c ≡ true

@@ -1,23 +1,20 @@
-// The listing of a log with four slots, into a lent buffer.
-// Promises upward: the text of the definition, for any key and any log that the program takes.
+//! The listing of a log with four slots, into a lent buffer.
+//! Promises upward: the text of the definition, for any key and any log that the program takes.
 #![tactic(auto)]
 
 ghost use Rattle.std.specs.Prelude.{◌≡◌, true, ◌+◌, ◌≤◌, ◌<◌, length};
 ghost use Rattle.words.specs.Splices.{splice};
-ghost use Rattle.aes.specs.Aes.{expansion};
-ghost use Rattle.hash.specs.Hashes.{set_bytes};
 ghost use Rattle.rules.specs.Runs.{sound};
 ghost use Rattle.text.specs.Text.{line_text, end_text};
 ghost use Rattle.listing.specs.Listings.{rows_from, listing};
 ghost use Rattle.listing.specs.Rooms.{log_limit, row_limit, end_limit, rows_limit, text_limit, Counts};
 
-use aes::Expanded;
-use state::State;
+use state::Keyed;
 
-// The longest log that is listed.
+/// The longest log that is listed.
 pub const LOG_LIMIT: usize = 65536;
 
-// Room for the listing of any such log.
+/// Room for the listing of any such log.
 pub const TEXT_ROOM: usize = 1048576;
 
 // Four slots.
@@ -39,41 +36,39 @@ fn put_last(out: &mut [u8], at: usize, settled: u64, used: usize) -> usize
     text::put_end(out, at, settled, used as u64)
 }
 
-// The lines of a log's entries from its start on, and the last line, at at; where they end. x is the set key
-// expanded; the cache is room to work in. Inner.
-fn rows(x: Expanded, log: &[u8], st: State, cache: &mut [u8], out: &mut [u8], at: usize) -> usize
-    requires { (length log.now ≤ log_limit) × (at + rows_limit ≤ length out.old) × (sound st cache.old ≡ true) × (x.bytes ≡ expansion (set_bytes st.set)) }
-    ensures { (result ≡ at + length (rows_from (length log.now) log.now 0 0 st cache.old)) × (out.new ≡ splice out.old at (rows_from (length log.now) log.now 0 0 st cache.old)) × (result ≤ length out.old) }
+// The lines of a log's entries from its start on, and the last line, at at; where they end. The cache is room to work in. Inner.
+fn rows(start: Keyed, log: &[u8], cache: &mut [u8], out: &mut [u8], at: usize) -> usize
+    requires { (length log.now ≤ log_limit) × (at + rows_limit ≤ length out.old) × (sound start.state cache.old ≡ true) }
+    ensures { (result ≡ at + length (rows_from (length log.now) log.now 0 0 start.state cache.old)) × (out.new ≡ splice out.old at (rows_from (length log.now) log.now 0 0 start.state cache.old)) × (result ≤ length out.old) }
 {
-    let mut s = st;
+    let mut keyed = start;
     let mut place = 0;
-    let mut n: u64 = 0;
+    let mut n = 0;
     let mut end = at;
     while place < log.len() {
-        let tag = log[place];
-        let r = step::step_well(x, run::left(log, place), s, cache);
-        let used = r.used;
-        s = r.state;
+        let step = step::step_well(&keyed, run::left(log, place), cache);
+        let verdict = step.verdict();
+        keyed = keyed.with(step.state(keyed.state));
         n += 1;
-        end = put_row(out, end, n, tag, r.verdict, s.epoch.0);
-        if run::halts(r.verdict) {
-            return put_last(out, end, s.settled(), place);
+        end = put_row(out, end, n, log[place], verdict, keyed.state.epoch.0);
+        if run::halts(verdict) {
+            return put_last(out, end, keyed.state.settled(), place);
         }
-        place += used;
+        place += step.used;
     }
-    put_last(out, end, s.settled(), place)
+    put_last(out, end, keyed.state.settled(), place)
 }
 
-// The listing of log, at the start of out; its length. Inner.
+/// The listing of log, at the start of out; its length. Inner.
 pub fn list(key: &[u8; 16], log: &[u8], out: &mut [u8]) -> usize
     requires { (length log.now ≤ log_limit) × (text_limit ≤ length out.old) }
     ensures text { (result ≡ length (listing key.now log.now)) × (out.new ≡ splice out.old 0 (listing key.now log.now)) }
     ensures counted { Counts result out.new }
 {
     let mut cache = [0u8; CACHE_BYTES];
-    let opened = state::open(key, &mut cache);
-    let st = opened.state;
-    let set = st.set;
     let at = text::put_slots(out, 0);
-    rows(hash::expanded(set), log, st, &mut cache, out, at)
+    let Ok(st) = state::open(key, &mut cache) else {
+        unreachable!()
+    };
+    rows(Keyed::new(st), log, &mut cache, out, at)
 }

@@ -1,20 +1,17 @@
--- Laws of the chain, of a block that is filled up, and of the last block. Assumes nothing.
+-- Laws of the chain, and of a block that is filled up. Assumes nothing.
 use mathlib.Core.Path.{◌≡◌, ap, ap₂, sym, ◌∙◌}
-use mathlib.Core.Bool.{Bool}
 use mathlib.Core.List.{List, ◌++◌}
-use Prim.Native.Nat.{ℕ, zero, suc, ◌+◌, ◌-◌, ◌*◌, ◌≤◌, ◌<◌}
+use Prim.Native.Nat.{ℕ, zero, suc, ◌+◌, ◌-◌, ◌*◌, ◌<◌}
 use native.Mathlib.Nat.{zero-add, sub-zero, zero-sub, suc-sub-suc}
 use native.Mathlib.Numerals.{add-one}
 use native.Mathlib.Omega.{arith}
-use borrow.Author.Tests.{eq-eqb, ne_eqb}
-use lib.ListN.{length, take, drop, set, replicate, length-drop}
-use lib.Seq.{set-append_seam, take_all}
-use Rattle.words.specs.Choice.{pick}
+use lib.ListN.{length, drop, set, replicate}
+use lib.Seq.{set-append_seam}
 use Rattle.words.specs.Numbers.{zeros}
 use Rattle.words.specs.Splices.{splice}
 use Rattle.aes.specs.Aes.{cipher, block_at}
 use Rattle.aes.specs.declared.Block.{Block}
-use Rattle.mac.specs.Cmac.{zero_block, xor_block, double, key1, key2, whole, chain, padding, last_block, mac_block}
+use Rattle.mac.specs.Cmac.{xor_block, chain, padding}
 
 -- ---- the chain
 
@@ -36,28 +33,3 @@ filled_is l b end h e p =
     let n : 16 - length l ≡ suc (15 - length l) = omega arith in
     let q : b ≡ l ++ replicate (suc (15 - length l)) 0 = p ∙ ap (λ (x : List ℕ). l ++ x) (ap (λ (k : ℕ). drop {A = ℕ} k (replicate 16 0)) (zero-add (length l)) ∙ drop_zeros 16 (length l) ∙ ap (λ (k : ℕ). replicate {A = ℕ} k 0) n) in
     ap₂ (λ (x : List ℕ) (k : ℕ). set x k 0x80) q (e ∙ zero-add (length l)) ∙ set-append_seam l 0 (replicate (15 - length l) 0) 0x80
-
--- ---- the last block, and the tag
-
-pub subkey_is : (w : List ℕ) (z e r : Block) → z ≡ zero_block → e ≡ cipher w z → r ≡ double e → r ≡ key1 w
-unfolding key1
-subkey_is w z e r ez ee er = er ∙ ap double (ee ∙ ap (cipher w) ez)
-
-module _ (w l : List ℕ) (k1 : Block) (e1 : k1 ≡ key1 w) where
-  abbrev chosen : Bool → Block
-  chosen b = pick b (xor_block (block_at l 0) (key1 w)) (xor_block (block_at (padding l) 0) (key2 w))
-
-  pub last_whole : (u r : Block) → length l ≡ 16 → u ≡ block_at l 0 → r ≡ xor_block u k1 → r ≡ last_block w l
-  unfolding last_block
-  last_whole u r h eu er = er ∙ ap₂ xor_block eu e1 ∙ sym (ap chosen (eq-eqb (length l) 16 h))
-
-  pub last_filled : (b : List ℕ) (u k2 r : Block) → (length l ≡ 16 → ⊥) → b ≡ padding l → u ≡ block_at b 0 → k2 ≡ double k1 → r ≡ xor_block u k2 → r ≡ last_block w l
-  unfolding last_block key2
-  last_filled b u k2 r h eb eu e2 er =
-      er ∙ ap₂ xor_block (eu ∙ ap (λ (x : List ℕ). block_at x 0) eb) (e2 ∙ ap double e1) ∙ sym (ap chosen (ne_eqb (length l) 16 h))
-
-pub mac_is : (w m : List ℕ) (q : ℕ) (x y v r : Block) → q ≡ whole (length m) → x ≡ chain w m q → y ≡ last_block w (take (length m - 16 * q) (drop (16 * q) m)) → v ≡ xor_block x y → r ≡ cipher w v → r ≡ mac_block w m
-unfolding mac_block
-mac_is w m q x y v r eq ex ey ev er =
-    let h : length (drop (16 * q) m) ≤ length m - 16 * q = simp length-drop (omega arith) in
-    er ∙ ap (cipher w) (ev ∙ ap₂ xor_block (ex ∙ ap (chain w m) eq) (ey ∙ ap (last_block w) (take_all (length m - 16 * q) (drop (16 * q) m) h ∙ ap (λ (n : ℕ). drop (16 * n) m) eq)))

@@ -4,14 +4,13 @@ use mathlib.Core.Path.{◌≡◌, refl, ap, sym, ◌∙◌}
 use mathlib.Core.List.{List, [], ◌++◌, append_assoc}
 use native.Mathlib.Omega.{arith}
 use lib.ListN.{length, length-append}
+use Rattle.std.specs.Prelude.{Some}
 use Rattle.words.specs.Numbers.{number_at, bytes_of}
 use Rattle.words.proofs.Laws.{bytes_length, number_at_lem}
 use Rattle.key.specs.Keys.{key_at, key_bytes}
-use Rattle.key.specs.declared.KeyRead.TheVariants as kr
 use Rattle.key.proofs.Laws.{key_back, key_length}
 use Rattle.value.specs.Values.{value_at, value_bytes}
-use Rattle.value.specs.declared.ValueRead.TheVariants as vr
-use Rattle.value.proofs.Laws.{value_length_lem}
+use Rattle.value.proofs.Laws.{value_length_lem, read_alike}
 use Rattle.value.proofs.Back.{value_back}
 use Rattle.message.specs.Messages.{message_bytes, WellMessage}
 use Rattle.message.specs.declared.Message.{Message}
@@ -38,13 +37,13 @@ module _ (m : Message) (w : WellMessage m) (r : List ℕ) where
       ap (λ (s : List ℕ). number_at 8 s 8) (simp append_assoc)
       ∙ number_at_lem 8 m.time.0 8 (bytes_of 8 m.epoch.0) (key_bytes m.key ++ (value_bytes m.value ++ r)) (bytes_length 8 m.epoch.0) w.time
 
-  pub message_key_back : key_at (message_bytes m ++ r) 16 ≡ kr.Good m.key
+  pub message_key_back : key_at (message_bytes m ++ r) 16 ≡ Some m.key
   unfolding message_bytes
   message_key_back =
       ap (λ (s : List ℕ). key_at s 16) (simp append_assoc)
       ∙ key_back m.key w.key_fits 16 (bytes_of 8 m.epoch.0 ++ bytes_of 8 m.time.0) (value_bytes m.value ++ r) (simp (length-append, bytes_length)) w.key
 
-  pub message_value_back : value_at (message_bytes m ++ r) 50 ≡ vr.Good m.value (length (value_bytes m.value))
+  pub message_value_back : value_at (message_bytes m ++ r) 50 ≡ Some (m.value, length (value_bytes m.value))
   unfolding message_bytes
   message_value_back =
       ap (λ (s : List ℕ). value_at s 50) (simp append_assoc)
@@ -57,10 +56,9 @@ message_ext a b p q r s = λ i. record { epoch = record { 0 = p i }; time = reco
 pub message_inj : (a b : Message) → WellMessage a → WellMessage b → message_bytes a ≡ message_bytes b → a ≡ b
 message_inj a b wa wb e =
     let s : message_bytes a ++ [] ≡ message_bytes b ++ [] = ap (λ (l : List ℕ). l ++ []) e in
-    let k : kr.Good a.key ≡ kr.Good b.key = sym (message_key_back a wa []) ∙ ap (λ (l : List ℕ). key_at l 16) s ∙ message_key_back b wb [] in
-    let x : vr.Good a.value (length (value_bytes a.value)) ≡ vr.Good b.value (length (value_bytes b.value))
-    = sym (message_value_back a wa []) ∙ ap (λ (l : List ℕ). value_at l 50) s ∙ message_value_back b wb [] in
+    let k : Some a.key ≡ Some b.key = sym (message_key_back a wa []) ∙ ap (λ (l : List ℕ). key_at l 16) s ∙ message_key_back b wb [] in
+    let x = read_alike a.value b.value _ _ (sym (message_value_back a wa []) ∙ ap (λ (l : List ℕ). value_at l 50) s ∙ message_value_back b wb []) in
     message_ext a b
     (sym (epoch_back a wa []) ∙ ap (λ (l : List ℕ). number_at 8 l 0) s ∙ epoch_back b wb [])
     (sym (time_back a wa []) ∙ ap (λ (l : List ℕ). number_at 8 l 8) s ∙ time_back b wb [])
-    (cc) (cc)
+    (cc) x.0

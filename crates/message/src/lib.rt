@@ -1,5 +1,5 @@
-// Epochs, times and the deferred message with its bytes, 51 to 187 of them.
-// Promises upward: the bytes determine epoch, time, key and value.
+//! Epochs, times and the deferred message with its bytes, 51 to 187 of them.
+//! Promises upward: the bytes determine epoch, time, key and value.
 #![tactic(auto)]
 
 ghost use Rattle.std.specs.Prelude.{◌≡◌, ◌+◌, ◌≤◌, length};
@@ -8,9 +8,9 @@ ghost use Rattle.message.specs.Messages.{message_bytes};
 
 use key::Key;
 use value::Value;
-use words::put_word;
+use words::put_number;
 
-// The widest message.
+/// The widest message.
 pub const MESSAGE_BYTES: usize = 187;
 
 // Where a message's time, key and value stand in it.
@@ -20,14 +20,14 @@ const KEY_AT: usize = 16;
 
 const VALUE_AT: usize = 50;
 
-// Epochs and clock times are both counts; an epoch is never accepted where a time is expected.
-#[derive(Clone, Copy)]
+/// Epochs and clock times are both counts; an epoch is never accepted where a time is expected.
+#[derive(Clone, Copy, Debug, PartialEq, Eq)]
 pub struct Epoch(pub u64);
 
-#[derive(Clone, Copy)]
+#[derive(Clone, Copy, Debug, PartialEq, Eq)]
 pub struct Time(pub u64);
 
-#[derive(Clone, Copy)]
+#[derive(Clone, Copy, Debug, PartialEq, Eq)]
 pub struct Message {
     pub epoch: Epoch,
     pub time: Time,
@@ -35,16 +35,14 @@ pub struct Message {
     pub value: Value,
 }
 
-// A message, and how many bytes it takes. Inner.
+/// A message, and how many bytes it takes. Inner.
+#[tactic(auto, using(crate::proofs::Laws::message_length))]
 pub fn write_message(m: Message, out: &mut [u8]) -> usize
     requires { length (message_bytes m) ≤ length out.old }
     ensures { (out.new ≡ splice out.old 0 (message_bytes m)) × (result ≡ length (message_bytes m)) }
 {
-    let k = m.key;
-    let v = m.value;
-    put_word(out, 0, m.epoch.0);
-    put_word(out, TIME_AT, m.time.0);
-    k.write(out, KEY_AT);
-    let n = value::write_value(v, out, VALUE_AT);
-    VALUE_AT + n
+    put_number::<8>(out, 0, m.epoch.0);
+    put_number::<8>(out, TIME_AT, m.time.0);
+    m.key.write(out, KEY_AT);
+    VALUE_AT + value::write_value(m.value, out, VALUE_AT)
 }

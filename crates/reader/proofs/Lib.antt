@@ -1,3 +1,2 @@
--- Places worked through, and their laws.
+-- Places worked through.
 pub mod Examples
-pub mod Laws

@@ -1,4 +1,5 @@
 -- A refused entry leaves the state and every byte of the cache as they were: for each entry, and for a step on any bytes.
+use Rattle.std.specs.Prelude.{Option, Some, None, Ok, Err}
 use mathlib.Core.Path.{◌≡◌, refl, ap}
 use mathlib.Core.Bool.{Bool, true, false}
 use mathlib.Core.List.{List}
@@ -19,21 +20,19 @@ use Rattle.value.specs.declared.Value.{Value}
 use Rattle.value.specs.declared.Value.TheVariants as v
 use Rattle.message.specs.declared.Epoch.{Epoch}
 use Rattle.message.specs.declared.Time.{Time}
-use Rattle.entry.specs.Entries.{read_entry}
+use Rattle.entry.specs.Entries.{Reading, read_entry}
 use Rattle.entry.specs.declared.Entry.{Entry}
 use Rattle.entry.specs.declared.Entry.TheVariants.{AddTree, AddDeferred, EvictTree, EvictDeferred, EvictTreeDeferred, Get, Absent, Put, Advance, Close}
-use Rattle.entry.specs.declared.Reading.{Reading}
-use Rattle.entry.specs.declared.Reading.TheVariants as reading
+use Rattle.entry.specs.declared.Unread.TheVariants as unread
 use Rattle.hash.specs.Hashes.{digest_of}
 use Rattle.slot.specs.Slots.{tree, deferred}
 use Rattle.slot.specs.declared.Slot.{Slot}
 use Rattle.slot.specs.declared.Slot.TheVariants as sl
 use Rattle.cache.specs.Caches.{slot_in, count, held, well_length, well_cache}
 use Rattle.state.specs.States.{count_limit, epoch_limit, well_state}
-use Rattle.state.specs.declared.Old as old
-use Rattle.state.specs.declared.Old.TheVariants.{Closed, Open}
+use Rattle.state.specs.declared.Tally.{Tally}
 use Rattle.state.specs.declared.State.{State}
-use Rattle.rules.specs.Outcomes.{Outcome, outcome, refuses, accepts}
+use Rattle.rules.specs.Outcomes.{Done, Outcome, outcome, refuses, accepts}
 use Rattle.rules.specs.Adds.{add_side, add_link, add_node, add_to, add_under, add_at, add_tree, named_epoch, in_time, add_named, add_into, defer_at, add_deferred}
 use Rattle.rules.specs.Evicts.{evict_side, evict_link, evict_node, evict_to, evict_under, evict_at, evict_by, deferred_at, evict_deferred}
 use Rattle.rules.specs.Answers as answers
@@ -41,7 +40,6 @@ use Rattle.rules.specs.Answers.{put_into}
 use Rattle.rules.specs.Epochs as epochs
 use Rattle.rules.specs.Epochs.{advance_old, close_old}
 use Rattle.rules.specs.Steps.{Step, entry_step, taking, step_read, step_well, well_formed, step}
-use Rattle.rules.specs.declared.Done as done
 use Rattle.rules.specs.declared.Named.{Named}
 use Rattle.rules.specs.declared.Named.TheVariants as named
 
@@ -94,10 +92,10 @@ module _ (st : State) (c : List ℕ) where
 
   -- ---- 2
 
-  add_named_lem : (s : ℕ) (e : Epoch) (t : Time) (k : Key) (x : Value) (w : Named) → Settles (add_named s e t k x st c w)
-  add_named_lem s e t k x named.NotOpen = no epoch_not_open refl
-  add_named_lem s e t k x named.Current = by (in_time t st.clock) (by (leb count_limit st.tally.adds) (no count_full refl) (ok _ _)) (no time_out_of_range refl)
-  add_named_lem s e t k x (named.Old T) = by (in_time t st.clock) (by (leb count_limit T.adds) (no count_full refl) (ok _ _)) (no time_out_of_range refl)
+  add_named_lem : (s : ℕ) (e : Epoch) (t : Time) (k : Key) (x : Value) (w : Option Named) → Settles (add_named s e t k x st c w)
+  add_named_lem s e t k x None = no epoch_not_open refl
+  add_named_lem s e t k x (Some named.Current) = by (in_time t st.clock) (by (leb count_limit st.tally.adds) (no count_full refl) (ok _ _)) (no time_out_of_range refl)
+  add_named_lem s e t k x (Some (named.Old T)) = by (in_time t st.clock) (by (leb count_limit T.adds) (no count_full refl) (ok _ _)) (no time_out_of_range refl)
 
   defer_at_lem : (s : ℕ) (e : Epoch) (t : Time) (k : Key) (x : Value) (z : Slot) → Settles (defer_at s e t k x st c z)
   unfolding add_into
@@ -168,17 +166,17 @@ module _ (st : State) (c : List ℕ) where
 
   -- ---- 9 and 10
 
-  either : (b : Bool) {x y : done.Done} → Settles (outcome x c) → Settles (outcome y c) → Settles (outcome (pick b x y) c)
+  either : (b : Bool) {x y : Done} → Settles (outcome x c) → Settles (outcome y c) → Settles (outcome (pick b x y) c)
   either true p q = p
   either false p q = q
 
-  advance_old_lem : (o : old.Old) → Settles (outcome (advance_old st o) c)
-  advance_old_lem (Open T) = no wrong_moment refl
-  advance_old_lem Closed = either (leb epoch_limit st.epoch.0) (no epoch_full refl) (ok _ c)
+  advance_old_lem : (o : Option Tally) → Settles (outcome (advance_old st o) c)
+  advance_old_lem (Some T) = no wrong_moment refl
+  advance_old_lem None = either (leb epoch_limit st.epoch.0) (no epoch_full refl) (ok _ c)
 
-  close_old_lem : (o : old.Old) → Settles (outcome (close_old st o) c)
-  close_old_lem Closed = no wrong_moment refl
-  close_old_lem (Open T) = either (eqb T.adds T.evicts) (either (tag_eq T.addsum T.evictsum) (ok _ c) (no sums_differ refl)) (no counts_differ refl)
+  close_old_lem : (o : Option Tally) → Settles (outcome (close_old st o) c)
+  close_old_lem None = no wrong_moment refl
+  close_old_lem (Some T) = either (eqb T.adds T.evicts) (either (tag_eq T.addsum T.evictsum) (ok _ c) (no sums_differ refl)) (no counts_differ refl)
 
   -- ---- every entry
 
@@ -198,7 +196,7 @@ module _ (st : State) (c : List ℕ) where
   -- ---- a step: it accepted an entry that was read, or everything is as it was
 
   pub data Stepping (w : List ℕ) (o : Step) : Type 0 where
-    took : well_state st ≡ true → (e : Entry) (n : ℕ) (σ : State) (d : List ℕ) → read_entry w ≡ reading.Good e n → entry_step e st c ≡ accepts σ d → o ≡ taking n (accepts σ d) → Stepping w o
+    took : well_state st ≡ true → (e : Entry) (n : ℕ) (σ : State) (d : List ℕ) → read_entry w ≡ Ok (e, n) → entry_step e st c ≡ accepts σ d → o ≡ taking n (accepts σ d) → Stepping w o
     kept : (n m : ℕ) → eqb n accepted ≡ false → o ≡ taking m (refuses n st c) → Stepping w o
 
   -- 28: a cache of another length is never touched
@@ -211,11 +209,11 @@ module _ (st : State) (c : List ℕ) where
   step_settles w = len (well_length c) refl
     where
       read : well_state st ≡ true → (r : Reading) → read_entry w ≡ r → Stepping w (step_read st c r)
-      read f reading.Short e = kept short 0 refl refl
-      read f (reading.Malformed n) e = kept malformed n refl refl
-      read f (reading.Good x n) e = go (entry_settles x)
+      read f (Err unread.Short) e = kept short 0 refl refl
+      read f (Err (unread.Malformed n)) e = kept malformed n refl refl
+      read f (Ok (x, n)) e = go (entry_settles x)
         where
-          go : Settles (entry_step x st c) → Stepping w (step_read st c (reading.Good x n))
+          go : Settles (entry_step x st c) → Stepping w (step_read st c (Ok (x, n)))
           go (took σ d q) = took f x n σ d e q (ap (taking n) q)
           go (kept m z q) = kept m n z (ap (taking n) q)
 

@@ -1,5 +1,5 @@
 -- Entries 1 (add from tree: checks 4 5 6 7 8 10, then by link) and 2 (add deferred: checks 4 5 7 8 18 19 20).
-use Rattle.std.specs.Prelude.{ℕ, ◌-◌, List, Bool, false, leb, eqb}
+use Rattle.std.specs.Prelude.{ℕ, ◌-◌, List, Bool, false, leb, eqb, Option, Some, None}
 use Rattle.words.specs.Choice.{pick, both}
 use Rattle.verdict.specs.Verdicts.{not_well, no_slot, slot_taken, slot_empty, key_held, wrong_kind, no_ancestor, other_branch, marked_deferred, digest_differs, not_first, epoch_not_open, time_out_of_range, count_full}
 use Rattle.key.specs.Keys.{key_eq, above, toward}
@@ -19,8 +19,7 @@ use Rattle.slot.specs.declared.Slot.{Slot}
 use Rattle.slot.specs.declared.Slot.TheVariants as sl
 use Rattle.cache.specs.Caches.{count, slot_in, put_slot, held}
 use Rattle.state.specs.States.{count_limit, added_current, added_old}
-use Rattle.state.specs.declared.Old.{Old}
-use Rattle.state.specs.declared.Old.TheVariants.{Closed, Open}
+use Rattle.state.specs.declared.Tally.{Tally}
 use Rattle.state.specs.declared.State.{State}
 use Rattle.rules.specs.Outcomes.{Outcome, refuses, accepts}
 use Rattle.rules.specs.declared.Named.{Named}
@@ -88,12 +87,12 @@ add_tree s p k x st c =
 -- ---- 2: add deferred: s, epoch, time, key, value
 
 -- 18: the epoch is current or the open old one, always the current one less 1
-abbrev pub named_old : Epoch → Epoch → Old → Named
-named_old e now Closed = named.NotOpen
-named_old e now (Open t) = pick (eqb e.0 (now.0 - 1)) (named.Old t) named.NotOpen
+abbrev pub named_old : Epoch → Epoch → Option Tally → Option Named
+named_old e now None = None
+named_old e now (Some t) = pick (eqb e.0 (now.0 - 1)) (Some (named.Old t)) None
 
-unfoldable pub named_epoch : State → Epoch → Named
-named_epoch st e = pick (eqb e.0 st.epoch.0) named.Current (named_old e st.epoch st.old)
+unfoldable pub named_epoch : State → Epoch → Option Named
+named_epoch st e = pick (eqb e.0 st.epoch.0) (Some named.Current) (named_old e st.epoch st.old)
 
 abbrev pub add_message : Epoch → Time → Key → Value → Message
 add_message e t k x = record { epoch = e; time = t; key = k; value = x }
@@ -107,13 +106,13 @@ abbrev pub add_counted : ℕ → ℕ → Key → Value → State → State → L
 add_counted adds s k x st next c =
     pick (leb count_limit adds) (refuses count_full st c) (accepts next (put_slot c s deferred k x))
 
-abbrev pub add_named : ℕ → Epoch → Time → Key → Value → State → List ℕ → Named → Outcome
-add_named s e t k x st c named.NotOpen = refuses epoch_not_open st c
-add_named s e t k x st c named.Current =
+abbrev pub add_named : ℕ → Epoch → Time → Key → Value → State → List ℕ → Option Named → Outcome
+add_named s e t k x st c None = refuses epoch_not_open st c
+add_named s e t k x st c (Some named.Current) =
     pick (in_time t st.clock)
     (add_counted st.tally.adds s k x st (added_current st (tag_of st.set (add_message e t k x))) c)
     (refuses time_out_of_range st c)
-add_named s e t k x st c (named.Old tally) =
+add_named s e t k x st c (Some (named.Old tally)) =
     pick (in_time t st.clock)
     (add_counted tally.adds s k x st (added_old st tally (tag_of st.set (add_message e t k x))) c)
     (refuses time_out_of_range st c)

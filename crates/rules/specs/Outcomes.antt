@@ -1,8 +1,13 @@
 -- What an entry comes to: its verdict, the next state, and every byte of the cache.
-use Rattle.std.specs.Prelude.{ℕ, List}
-use Rattle.verdict.specs.Verdicts.{accepted}
+use Rattle.std.specs.Prelude.{ℕ, List, Result, Ok, Err}
+use Rattle.verdict.specs.Verdicts.{accepted, number}
+use Rattle.verdict.specs.declared.Refusal.{Refusal}
 use Rattle.state.specs.declared.State.{State}
-use Rattle.rules.specs.declared.Done.{Done}
+
+-- what an entry comes to but for the cache: the verdict, and the state after it
+pub record Done : Type 0 where
+  pub verdict : ℕ
+  pub state : State
 
 pub record Outcome : Type 0 where
   pub done : Done
@@ -13,6 +18,11 @@ outcome d c = record { done = d; bytes = c }
 
 abbrev pub gives : ℕ → State → Done
 gives n st = record { verdict = n; state = st }
+
+-- what the code answers, as the rules tell it: 0 and the next state, or the refusal's number and the state as it was
+abbrev pub done : Result State Refusal → State → Done
+done (Ok next) st = gives accepted next
+done (Err r) st = gives (number r) st
 
 -- a refused entry leaves state and cache as they were
 abbrev pub refuses : ℕ → State → List ℕ → Outcome

@@ -1,22 +1,19 @@
 -- One step, for any log, state and cache: 28, 1, 3, 2, then the table (document 01, "Verdict numbers").
-use Rattle.std.specs.Prelude.{ℕ, List, Bool}
+use Rattle.std.specs.Prelude.{ℕ, List, Bool, Ok, Err}
 use Rattle.words.specs.Choice.{pick, both}
 use Rattle.verdict.specs.Verdicts.{not_well, malformed, short, wrong_cache}
-use Rattle.entry.specs.Entries.{read_entry}
+use Rattle.entry.specs.Entries.{Reading, read_entry}
 use Rattle.entry.specs.declared.Entry.{Entry}
 use Rattle.entry.specs.declared.Entry.TheVariants.{AddTree, AddDeferred, EvictTree, EvictDeferred, EvictTreeDeferred, Get, Absent, Put, Advance, Close}
-use Rattle.entry.specs.declared.Reading.{Reading}
-use Rattle.entry.specs.declared.Reading.TheVariants as reading
+use Rattle.entry.specs.declared.Unread.TheVariants as unread
 use Rattle.cache.specs.Caches.{well_length, well_cache}
 use Rattle.state.specs.States.{well_state}
 use Rattle.state.specs.declared.State.{State}
-use Rattle.rules.specs.Outcomes.{Outcome, outcome, gives, refuses}
+use Rattle.rules.specs.Outcomes.{Done, Outcome, outcome, gives, refuses}
 use Rattle.rules.specs.Adds.{add_tree, add_deferred}
 use Rattle.rules.specs.Evicts.{evict_tree, evict_deferred, evict_tree_deferred}
 use Rattle.rules.specs.Answers.{get, absent, put}
 use Rattle.rules.specs.Epochs.{advance, close}
-use Rattle.rules.specs.declared.Done.{Done}
-use Rattle.rules.specs.declared.Stepped.{Stepped}
 
 -- what an entry comes to
 unfoldable pub entry_step : Entry → State → List ℕ → Outcome
@@ -30,6 +27,12 @@ entry_step (Absent p k) st c = outcome (gives (absent p k c) st) c
 entry_step (Put s k x) st c = put s k x st c
 entry_step Advance st c = outcome (advance st) c
 entry_step Close st c = outcome (close st) c
+
+-- what a step returns: the verdict, the next state, and the bytes used
+pub record Stepped : Type 0 where
+  pub verdict : ℕ
+  pub state : State
+  pub used : ℕ
 
 -- what a step comes to: what it returns, and every byte of the cache
 pub record Step : Type 0 where
@@ -48,9 +51,9 @@ taking n o = stepped (used_by n o.done) o.bytes
 
 -- 3, 2, then the entry
 abbrev pub step_read : State → List ℕ → Reading → Step
-step_read st c reading.Short = taking 0 (refuses short st c)
-step_read st c (reading.Malformed n) = taking n (refuses malformed st c)
-step_read st c (reading.Good e n) = taking n (entry_step e st c)
+step_read st c (Err unread.Short) = taking 0 (refuses short st c)
+step_read st c (Err (unread.Malformed n)) = taking n (refuses malformed st c)
+step_read st c (Ok (e, n)) = taking n (entry_step e st c)
 
 -- a step on a state and a cache that are well formed
 unfoldable pub step_well : List ℕ → State → List ℕ → Step

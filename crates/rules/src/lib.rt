@@ -1,29 +1,22 @@
-// The rules: what each entry, a step and a run come to, for any log, state and cache, as definitions (specs/) that the verifier's code, its
-// reader and the theorem about settled answers share. The declared types are those that the code returns.
-// Promises upward: document 01's examples M1 to M12 follow from the definitions.
+//! The rules: what each entry, a step and a run come to, for any log, state and cache, as definitions (specs/) that the verifier's code, its
+//! reader and the theorem about settled answers share. The declared types are those that the code returns.
+//! Promises upward: document 01's examples M1 to M12 follow from the definitions.
 #![tactic(auto)]
 
-ghost use Rattle.std.specs.Prelude.{◌≡◌};
-ghost use Rattle.rules.specs.Outcomes.{gives};
+ghost use Rattle.std.specs.Prelude.{◌≡◌, ◌+◌, ◌*◌, ◌≤◌, length};
+ghost use Rattle.value.specs.Values.{side_of, with_side};
+ghost use Rattle.value.specs.declared.Value.TheVariants.{Node};
+ghost use Rattle.slot.specs.Slots.{slot_length};
+ghost use Rattle.cache.specs.Caches.{put_slot};
 
+use key::Key;
 use state::{State, Tally};
+use value::{Side, Value};
 
-// What an entry comes to: the verdict, and the state after it.
-#[derive(Clone, Copy)]
-pub struct Done {
-    pub verdict: u32,
-    pub state: State,
-}
+/// The root's slot.
+pub const ROOT_SLOT: usize = 0;
 
-// What a step returns: the verdict, the next state, and the bytes used.
-#[derive(Clone, Copy)]
-pub struct Stepped {
-    pub verdict: u32,
-    pub state: State,
-    pub used: usize,
-}
-
-// What a run returns: the end state, the last epoch settled, entries met, entries accepted, bytes used.
+/// What a run returns: the end state, the last epoch settled, entries met, entries accepted, bytes used.
 #[derive(Clone, Copy)]
 pub struct Ran {
     pub state: State,
@@ -33,17 +26,37 @@ pub struct Ran {
     pub used: usize,
 }
 
-// The epoch that a deferred add names: the current one, the open old one with its tally, or none that is open.
+/// The open epoch that a deferred add names: the current one, or the old one with its tally.
 #[derive(Clone, Copy)]
 pub enum Named {
     Current,
     Old(Tally),
-    NotOpen,
 }
 
-// A verdict, and the state after it.
-pub fn gives(verdict: u32, state: State) -> Done
-    ensures { result ≡ gives verdict state }
-{
-    Done { verdict, state }
+/// The node in slot p of an entry 1, 3 or 5, and the side of it that the entry's key lies on.
+#[derive(Clone, Copy)]
+pub struct Parent {
+    pub slot: usize,
+    pub origin: u8,
+    pub key: Key,
+    pub node: value::Node,
+    pub right: bool,
+}
+
+impl Parent {
+    /// What stands on that side.
+    pub fn side(self) -> Side
+        ensures { result ≡ side_of self.node self.right }
+    {
+        tree::side_of(self.node, self.right)
+    }
+
+    /// The node with another link on that side, in its slot. Inner.
+    pub fn set_side(self, link: Side, cache: &mut [u8])
+        requires { (self.slot + 1) * slot_length ≤ length cache.old }
+        ensures { cache.new ≡ put_slot cache.old self.slot self.origin self.key (Node (with_side self.node self.right link)) }
+    {
+        let node = tree::with_side(self.node, self.right, link);
+        slot::set_slot(cache, self.slot, self.origin, self.key, Value::Node(node));
+    }
 }

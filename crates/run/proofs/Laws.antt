@@ -1,20 +1,25 @@
 -- The turns of a run. Assumes nothing.
+use Rattle.std.specs.Prelude.{Ok, Err}
 use Prim.Native.Nat.{ℕ, zero, suc, ◌+◌, ◌-◌, ◌≤◌, ◌<◌}
 use mathlib.Core.Path.{◌≡◌, refl, ap, sym, ◌∙◌}
 use mathlib.Core.List.{List}
-use mathlib.Core.Bool.{Bool, true, false, false≢true}
+use mathlib.Core.Bool.{Bool, true, false, false≢true, not}
+use mir.Val.{bool_byte}
+use Rattle.std.specs.Prelude.{Some, None, Ok, Err, get_or}
 use native.Mathlib.Omega.{arith}
 use native.Mathlib.Nat.{sub-zero, add-zero}
-use lib.Dec.{eqb}
+use lib.Dec.{eqb, lit≤}
 use lib.ListN.{length, drop, length-drop}
-use borrow.Author.Tests.{lt-leb, le-leb}
+use borrow.Author.Tests.{lt-leb, le-leb, ne_eqb, eqb-true, eqb-false}
 use Rattle.words.specs.Choice.{pick, both}
 use Rattle.words.specs.Numbers.{Bytes}
 use Rattle.words.proofs.Laws.{both_true, true_both, drop_bytes}
-use Rattle.verdict.specs.Verdicts.{accepted, not_well, wrong_cache}
+use Rattle.verdict.specs.Verdicts.{accepted, not_well, wrong_cache, number}
+use Rattle.verdict.specs.declared.Refusal.{Refusal}
+use Rattle.verdict.proofs.Reasons.{reasons, reason_back}
 use Rattle.aes.specs.Aes.{expansion}
 use Rattle.entry.specs.Entries.{read_entry, reading_used}
-use Rattle.entry.specs.declared.Reading.TheVariants as reading
+use Rattle.entry.specs.declared.Unread.TheVariants as unread
 use Rattle.entry.proofs.Laws.{used_within, used_some}
 use Rattle.hash.specs.Hashes.{set_bytes}
 use Rattle.hash.specs.declared.SetKey.{SetKey}
@@ -22,14 +27,15 @@ use Rattle.cache.specs.Caches.{well_length, well_cache}
 use Rattle.state.specs.States.{well_state, settled}
 use Rattle.state.specs.declared.State.{State}
 use Rattle.rules.specs.Outcomes.{refuses}
-use Rattle.rules.specs.declared.Stepped.{Stepped}
-use Rattle.rules.specs.Steps.{Step, stepped, taking, step_well, well_formed, step}
+use Rattle.rules.specs.Steps.{Step, stepped, taking, step_well, well_formed, step, Stepped}
+use Rattle.step.specs.Progress.{progress}
+use Rattle.step.specs.declared.Progress.{Progress}
 use Rattle.step.proofs.Kept.{step_inner, step_keeps, step_used}
 use Rattle.rules.specs.Runs.{Run, running, halts, sound, ended, after_step, run_from, run}
 
 -- ---- a step of a run
 
-short_halts : (log : List ℕ) (st : State) (c : List ℕ) → read_entry log ≡ reading.Short → halts (step_well log st c).result.verdict ≡ true
+short_halts : (log : List ℕ) (st : State) (c : List ℕ) → read_entry log ≡ Err unread.Short → halts (step_well log st c).result.verdict ≡ true
 unfolding step_well halts
 short_halts log st c e = rw e
 
@@ -165,3 +171,103 @@ refused_first log st c e z =
     sym (run_turn (length log - 1) (length log) log 0 st c 0 0 (omega arith) h
     ∙ refused_stops (run_from (length log - 1) log) (drop 0 log) st c e
     ∙ ended_refused st c 1 e)
+
+-- as the code counts it: 1 where the log has an entry
+pub refused_met : (log : List ℕ) (st : State) (c : List ℕ) → sound st c ≡ false → refused_run st c (bool_byte (not (eqb (length log) 0))) ≡ run log st c
+refused_met log st c e = go (eqb (length log) 0) refl
+  where
+    go : (b : Bool) → eqb (length log) 0 ≡ b → refused_run st c (bool_byte (not b)) ≡ run log st c
+    go true q = refused_empty log st c e (eqb-true (length log) 0 q)
+    go false q = refused_first log st c e (eqb-false (length log) 0 q)
+
+-- ---- what a run knows between two turns
+
+-- a refusal is not counted as accepted
+pub refused_uncounted : (r : Refusal) → eqb (number r) accepted ≡ false
+refused_uncounted r =
+    ne_eqb (number r) accepted
+    (λ e.
+    let f : get_or reasons accepted None ≡ Some r = sym (ap (λ (n : ℕ). get_or reasons n None) e) ∙ reason_back {T = ℕ} (Err r) in
+    cc)
+
+-- s and d are the state and the cache that it began with
+pub record Between (log : List ℕ) (s : State) (d : List ℕ) (at : ℕ) (st : State) (c : List ℕ) (m a : ℕ) : Type 0 where
+  pub within : at ≤ length log
+  pub met : m ≤ at
+  pub accepted : a ≤ m
+  pub size : length c ≡ length d
+  pub going : Going s.set st c
+  pub read : Bytes log
+  pub bytes : Bytes c
+  pub rest : run_from (length log - m) log at st c m a ≡ run log s d
+
+pub between_first : (log : List ℕ) (s : State) (d : List ℕ) → sound s d ≡ true → Bytes log → Bytes d → Between log s d 0 s d 0 0
+between_first log s d e bl bd =
+    record {
+      within = omega arith;
+      met = omega arith;
+      accepted = omega arith;
+      size = refl;
+      going = record { well = e; set = refl };
+      read = bl;
+      bytes = bd;
+      rest = run_starts log s d;
+    }
+
+module _ {log : List ℕ} {s : State} {d : List ℕ} {at : ℕ} {st : State} {c : List ℕ} {m a : ℕ} (b : Between log s d at st c m a) where
+  pub between_over : length log ≤ at → running (record { state = st; settled = settled st; met = m; accepted = a; used = at }) c ≡ run log s d
+  between_over h =
+      ended_well s.set st c at m a (settled st) b.going refl ∙ sym (run_over (length log - m) log at st c m a h) ∙ b.rest
+
+  -- a turn gave p and left the cache so
+  module _ (h : at < length log) (p : Progress) {left l : List ℕ} (el : l ≡ drop at log) (e : stepped (progress p st) left ≡ step_well l st c) where
+    pub between_there : at + p.used ≤ length log
+    between_there = turn_there log at s.set st c b.going (progress p st) left l el e b.within
+
+    going : Going s.set (progress p st).state left
+    going = turn_going log at s.set st c b.going (progress p st) left l el e b.read b.bytes
+
+    -- the next state has the same set key
+    pub between_set : (next : State) → p.next ≡ Ok next → next.set ≡ st.set
+    between_set next q = (rw q at going).set ∙ sym b.going.set
+
+    on : length left ≡ length c → Bytes left → halts (progress p st).verdict ≡ false → (n : ℕ) → n ≤ 1 → n ≡ pick (eqb (progress p st).verdict accepted) 1 0
+        → Between log s d (at + p.used) (progress p st).state left (m + 1) (a + n)
+    on z x f n v y =
+        let u : 3 ≤ p.used = turn_goes log at s.set st c b.going (progress p st) left l el e f in
+        let k = b.met in
+        let j = b.accepted in
+        record {
+          within = between_there;
+          met = omega arith;
+          accepted = omega arith;
+          size = z ∙ b.size;
+          going = going;
+          read = b.read;
+          bytes = x;
+          rest = turn_on log at s.set st c b.going (progress p st) left l el e m a h (omega arith) (run log s d) b.rest f n y;
+        }
+
+    -- the turn takes a head at least
+    pub between_ok_used : (next : State) → p.next ≡ Ok next → 3 ≤ p.used
+    unfolding halts
+    between_ok_used next q = turn_goes log at s.set st c b.going (progress p st) left l el e (rw q)
+
+    pub between_err_used : (r : Refusal) → p.next ≡ Err r → halts (number r) ≡ false → 3 ≤ p.used
+    between_err_used r q f = turn_goes log at s.set st c b.going (progress p st) left l el e (rw q f)
+
+    pub between_ok : (next : State) → p.next ≡ Ok next → length left ≡ length c → Bytes left
+        → Between log s d (at + p.used) next left (m + 1) (a + 1)
+    unfolding halts
+    between_ok next q z x = rw q at (on z x (rw q) 1 (lit≤ tt) (rw q))
+
+    pub between_err : (r : Refusal) → p.next ≡ Err r → halts (number r) ≡ false → length left ≡ length c → Bytes left
+        → Between log s d (at + p.used) st left (m + 1) a
+    between_err r q f z x = rw add-zero at (rw q at (on z x (rw q f) 0 (lit≤ tt) (rw (q, refused_uncounted r))))
+
+    pub between_stop : (r : Refusal) → p.next ≡ Err r → halts (number r) ≡ true
+        → running (record { state = st; settled = settled st; met = m + 1; accepted = a; used = at }) left ≡ run log s d
+    between_stop r q f =
+        let k = b.met in
+        ended_well s.set st left at (m + 1) a (settled st) (rw q at going) refl
+        ∙ rw q at (turn_stop log at s.set st c b.going (progress p st) left l el e m a h (omega arith) (run log s d) b.rest (rw q f))

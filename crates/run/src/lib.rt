@@ -1,119 +1,102 @@
-// A run over a log.
-// Promises upward: what is returned and every byte of the cache are the rules', for any log, any state and any lent cache; it is made on the
-// inner step, with one expanded key for the whole run.
+//! A run over a log.
+//! Promises upward: what is returned and every byte of the cache are the rules', for any log, any state and any lent cache; it is made on the
+//! inner step, with one expanded key for the whole run.
 #![tactic(auto)]
 
-ghost use Rattle.std.specs.Prelude.{◌≡◌, true, ◌≤◌, eqb, drop};
-ghost use Rattle.words.specs.Choice.{pick};
-ghost use Rattle.verdict.specs.Verdicts.{accepted};
-ghost use Rattle.aes.specs.Aes.{expansion};
-ghost use Rattle.hash.specs.Hashes.{set_bytes};
+ghost use Rattle.std.specs.Prelude.{◌≡◌, true, drop};
+ghost use Rattle.state.specs.States.{settled};
 ghost use Rattle.rules.specs.Runs.{running, halts, sound, run};
 
-use aes::Expanded;
 use reader::Reader;
 use rules::Ran;
-use state::State;
-use words::and;
+use state::{Keyed, State};
+use verdict::Refusal;
 
-// Whether a run stops at a verdict: 28, 1 or 3.
+// The verdicts at which a run stops.
+const WRONG_CACHE: u32 = Refusal::WrongCache as u32;
+
+const NOT_WELL: u32 = Refusal::NotWell as u32;
+
+const SHORT: u32 = Refusal::Short as u32;
+
+/// Whether a run stops at a verdict: 28, 1 or 3.
+#[tactic(auto, unfolding(rules::specs::Runs::halts))]
 pub fn halts(v: u32) -> bool
     ensures { result ≡ halts v }
 {
-    if v == verdict::WRONG_CACHE {
-        return true;
-    }
-    if v == verdict::NOT_WELL {
-        return true;
-    }
-    v == verdict::SHORT
+    matches!(v, WRONG_CACHE | NOT_WELL | SHORT)
 }
 
-// Whether neither 28 nor 1 applies.
+/// Whether neither 28 nor 1 applies.
+#[tactic(auto, unfolding(rules::specs::Runs::sound))]
 pub fn sound(st: State, cache: &[u8]) -> bool
     ensures { result ≡ sound st cache.now }
 {
-    and(
-        cache::well_length(cache),
-        and(st.well(), cache::well_cache(cache)),
-    )
+    cache::well_length(cache) && st.well() && cache::well_cache(cache)
 }
 
-// What is left of a log from a place on, by the reader that keeps the two together.
+/// What is left of a log from a place on, by the reader that keeps the two together.
 pub fn left(log: &[u8], at: usize) -> &[u8]
     ensures { result.now ≡ drop at log.now }
 {
     Reader::at(log, at).rest()
 }
 
-// One where the entry was accepted.
-fn counted(v: u32) -> u64
-    ensures { (result ≡ pick (eqb v accepted) 1 0) × (result ≤ 1) }
+// The end of a run to which neither 28 nor 1 applies.
+fn ended(st: State, met: u64, accepted: u64, used: usize) -> Ran
+    ensures { result ≡ record { state = st; settled = settled st; met = met; accepted = accepted; used = used } }
 {
-    if v == verdict::ACCEPTED {
-        return 1;
+    Ran {
+        state: st,
+        settled: st.settled(),
+        met,
+        accepted,
+        used,
     }
-    0
 }
 
-// A run on a state and a cache to which neither 28 nor 1 applies; x is the set key expanded. Inner.
-fn run_well(x: Expanded, log: &[u8], st: State, cache: &mut [u8]) -> Ran
-    requires { (sound st cache.old ≡ true) × (x.bytes ≡ expansion (set_bytes st.set)) }
-    ensures { running result cache.new ≡ run log.now st cache.old }
+// A run on a state and a cache to which neither 28 nor 1 applies. Inner.
+#[tactic(auto, using(crate::proofs::Laws::between_first, crate::proofs::Laws::between_over, crate::proofs::Laws::going_state))]
+fn run_well(start: Keyed, log: &[u8], cache: &mut [u8]) -> Ran
+    requires { sound start.state cache.old ≡ true }
+    ensures { running result cache.new ≡ run log.now start.state cache.old }
 {
-    let mut s = st;
+    let mut keyed = start;
     let mut at = 0;
     let mut met: u64 = 0;
     let mut accepted: u64 = 0;
     while at < log.len() {
-        let r = step::step_well(x, left(log, at), s, cache);
-        let used = r.used;
-        s = r.state;
+        let step = step::step_well(&keyed, left(log, at), cache);
         met += 1;
-        if halts(r.verdict) {
-            return Ran {
-                state: s,
-                settled: s.settled(),
-                met,
-                accepted,
-                used: at,
-            };
+        match step.next {
+            Ok(next) => {
+                keyed = keyed.with(next);
+                accepted += 1;
+            }
+            Err(refusal) => {
+                if halts(u32::from(refusal)) {
+                    return ended(keyed.state, met, accepted, at);
+                }
+            }
         }
-        accepted += counted(r.verdict);
-        at += used;
+        at += step.used;
     }
-    Ran {
-        state: s,
-        settled: s.settled(),
-        met,
-        accepted,
-        used: at,
-    }
+    ended(keyed.state, met, accepted, at)
 }
 
-// A run to which 28 or 1 applies, after so many entries met.
-fn refused(st: State, met: u64) -> Ran
-    ensures { result ≡ record { state = st; settled = 0; met = met; accepted = 0; used = 0 } }
-{
-    Ran {
-        state: st,
-        settled: 0,
-        met,
-        accepted: 0,
-        used: 0,
-    }
-}
-
-// A run over a log, one step after another.
+/// A run over a log, one step after another. Where 28 or 1 applies, it stops at the first entry, which counts as met.
+#[tactic(auto, using(crate::proofs::Laws::refused_met))]
 pub fn run(log: &[u8], st: State, cache: &mut [u8]) -> Ran
     ensures { running result cache.new ≡ run log.now st cache.old }
 {
     if sound(st, cache) {
-        let set = st.set;
-        return run_well(hash::expanded(set), log, st, cache);
+        return run_well(Keyed::new(st), log, cache);
     }
-    if log.len() == 0 {
-        return refused(st, 0);
+    Ran {
+        state: st,
+        settled: 0,
+        met: u64::from(!log.is_empty()),
+        accepted: 0,
+        used: 0,
     }
-    refused(st, 1)
 }

@@ -1,20 +1,21 @@
 -- Laws of the field, of the S-box and of the tables. Assumes nothing.
 use mathlib.Core.Path.{◌≡◌, refl, ap, sym, ◌∙◌, subst}
 use mathlib.Core.List.{List, [], ◌∷◌, ◌++◌}
-use Prim.Native.Nat.{ℕ, zero, suc, ◌+◌, ◌*◌, ◌/◌, ◌%◌, ◌^◌, ◌≤◌, ◌<◌, zero-le}
+use Prim.Native.Nat.{ℕ, zero, suc, ◌+◌, ◌*◌, ◌/◌, ◌%◌, ◌^◌, ◌<◌}
 use native.Mathlib.Decide.{ℕ_discrete}
 use native.Mathlib.Nat.{mod-lt, pow-suc, mul_comm}
 use native.Mathlib.Numerals.{add-one}
 use native.Mathlib.Omega.{arith}
 use lib.Arith.{lt_of_le-ne, digits_lt}
-use lib.Bits.{bit_xor, xor_lt, xor_zero_r}
+use lib.Bits.{bit_xor, xor_lt}
 use lib.Dec.{lit<}
 use lib.ListN.{length, get_or, length-append, get_or-append}
 use lib.Seq.{get_or_at}
+use Rattle.std.proofs.Common.{map}
+use Rattle.std.proofs.lemmas.List.{get_or-map}
 use Rattle.sbox.specs.Field.{xtime, three, bit, affine_bits, affine, inverse, values_of, sbox, sub}
 use Rattle.sbox.specs.Columns.{spread}
 use Rattle.sbox.specs.Vectors.{figure, figure7}
-use Rattle.sbox.proofs.Xor.{xor_assoc}
 
 -- ---- values of a function in a list
 
@@ -79,34 +80,15 @@ three_lt b h = xlt (xtime_lt b h) h
 
 -- ---- the tables
 
--- a byte whose highest bit is turned twice
-pub turned_back : (b : ℕ) → bit_xor (bit_xor b 128) 128 ≡ b
-turned_back b = xor_assoc b 128 128 ∙ xor_zero_r b
-
 -- the substitution as figure 7 of FIPS 197 has it, which computes at once
 pub sub_figure : (b : ℕ) → get_or figure b 0 ≡ sub b
 unfolding sub
 sub_figure b = ap (λ (l : List ℕ). get_or l b 0) (sym figure7)
 
--- an arm of the tables, at n: what the figure has there, for the byte that has its highest bit turned to n
-pub sub_arm : (b n : ℕ) → bit_xor b 128 ≡ n → get_or figure (bit_xor n 128) 0 ≡ sub b
-sub_arm b n e = ap (λ (x : ℕ). get_or figure (bit_xor x 128) 0) (sym e) ∙ ap (λ (x : ℕ). get_or figure x 0) (turned_back b) ∙ sub_figure b
+figure_length : length figure ≡ 256
+unfolding figure
+figure_length = refl
 
-pub spread_arm : (b n : ℕ) → bit_xor b 128 ≡ n → spread (get_or figure (bit_xor n 128) 0) ≡ spread (sub b)
-spread_arm b n e = ap spread (sub_arm b n e)
-
--- the last arm of a match on a number: none of 0 .. n - 1 is x, so n is at most x
-abbrev Rest : ℕ → ℕ → Type 0
-Rest x zero = Unit
-Rest x (suc k) = Rest x k × (x ≡ k → ⊥)
-
-pub past : (x n : ℕ) → Rest x n → n ≤ x
-past x zero r = zero-le
-past x (suc k) r = lt_of_le-ne (past x k r.0) (λ e. r.1 (sym e))
-
--- and 255 is all that is left of a byte
-pub last_arm : (b : ℕ) → b < 256 → Rest (bit_xor b 128) 255 → bit_xor b 128 ≡ 255
-last_arm b h r = let p = past (bit_xor b 128) 255 r in let q : bit_xor b 128 < 256 = xlt h (lit< tt) in last (bit_xor b 128) p q
-  where
-    last : (x : ℕ) → 255 ≤ x → x < 256 → x ≡ 255
-    last x k l = omega arith
+-- and each column
+pub spread_figure : (b : ℕ) → b < 256 → get_or (map spread figure) b 0 ≡ spread (sub b)
+spread_figure b h = get_or-map spread figure b 0 0 (rw figure_length h) ∙ ap spread (sub_figure b)

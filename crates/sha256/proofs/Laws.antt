@@ -3,27 +3,19 @@ use mathlib.Core.Path.{◌≡◌, refl, ap, ap₂, sym, ◌∙◌}
 use mathlib.Core.List.{List, [], ◌∷◌, ◌++◌, append_assoc, append-nil}
 use Prim.Native.Nat.{ℕ, zero, suc, ◌+◌, ◌-◌, ◌*◌, ◌/◌, ◌%◌, ◌^◌, ◌≤◌, ◌<◌}
 use native.Mathlib.Numerals.{add-one}
-use native.Mathlib.Nat.{mul_comm}
+use native.Mathlib.Nat.{mul_comm, zero-add}
 use native.Mathlib.Omega.{arith}
+use Rattle.std.proofs.lemmas.List.{drop-replicate}
 use lib.Arith.{digits_lt, digits_div, digits_mod}
-use lib.ListN.{length, take, drop, get_or, set, replicate, length-drop, length-append, length-replicate, replicate-append-replicate}
-use lib.Seq.{drop-append-le, take-append-le, take-append-add, set_at, set-append_seam, append_snoc, take-suc, take_at, length-take-le, take-take, take_all, take-length, drop-drop}
+use lib.ListN.{length, take, drop, set, replicate, length-drop, length-append, length-replicate, replicate-append-replicate}
+use lib.Seq.{drop-append-le, take-append-le, take-append-add, set-append_seam, take_at, drop_at, take-take, take_all, drop-drop}
 use Rattle.words.specs.Numbers.{bytes_of, four_at, four_words, Bytes}
 use Rattle.words.specs.Splices.{splice}
 use Rattle.words.specs.declared.Four.{Four}
 use Rattle.words.proofs.Laws.{bytes_low, bytes_length, bytes_split, take_splice, splice_all, four_at_lem, four_back, append_bytes, number_bytes}
-use Rattle.sha256.specs.Sha256.{Hash, compress, blocks, padding, after, padded, hash_bytes}
+use Rattle.sha256.specs.Sha256.{Hash, H0, compress, blocks, padding, after, padded, hash_bytes}
 
--- ---- what the loop of `ending` copies, and its stores after it
-pub copied : (t b : List ℕ) (i : ℕ) → i < length t → length t < 64 → b ≡ take i t ++ replicate (128 - i) 0 → set b i (get_or t i 0) ≡ take (i + 1) t ++ replicate (128 - (i + 1)) 0
-copied t b i h k p =
-    let e : 128 - i ≡ suc (128 - (i + 1)) = omega arith in
-    ap (λ (l : List ℕ). set l i (get_or t i 0)) p
-    ∙ ap (λ (n : ℕ). set (take i t ++ replicate n 0) i (get_or t i 0)) e
-    ∙ set_at (take i t) 0 (replicate (128 - (i + 1)) 0) (get_or t i 0) i (length-take-le i t (omega arith))
-    ∙ sym (append_snoc (take i t) (get_or t i 0) (replicate (128 - (i + 1)) 0))
-    ∙ ap (λ (l : List ℕ). l ++ replicate (128 - (i + 1)) 0) (sym (take-suc t i 0 h) ∙ ap (λ (n : ℕ). take n t) (sym (add-one i)))
-
+-- ---- the stores of `ending`
 pub marked : (t : List ℕ) → length t < 64 → set (t ++ replicate (128 - length t) 0) (length t) 0x80 ≡ t ++ 0x80 ∷ replicate (127 - length t) 0
 marked t k =
     let e : 128 - length t ≡ suc (127 - length t) = omega arith in
@@ -42,13 +34,13 @@ before_length t at h k =
     ∙ take-append-add t (0x80 ∷ replicate (127 - length t) 0) (suc (at - (length t + 1)))
     ∙ ap (λ (l : List ℕ). t ++ 0x80 ∷ l) (take_replicate (at - (length t + 1)) (127 - length t) (omega arith))
 
-pub ending_is : (t b : List ℕ) (x i : ℕ) → length t < 64 → i ≡ length t → b ≡ take i t ++ replicate (128 - i) 0
+pub ending_is : (t b : List ℕ) (x i : ℕ) → length t < 64 → i ≡ 0 + length t → b ≡ splice (replicate 128 0) 0 t
     → take (64 * blocks (length t)) (splice (set b i 0x80) ((i + 72) / 64 * 64 - 8) (bytes_of 8 x)) ≡ t ++ padding (length t) x
+unfolding splice
 ending_is t b x i h e p =
-    let q : b ≡ t ++ replicate (128 - length t) 0 =
-    p ∙ ap (λ (n : ℕ). take n t ++ replicate (128 - n) 0) e ∙ ap (λ (l : List ℕ). l ++ replicate (128 - length t) 0) (take-length t) in
+    let q : b ≡ t ++ replicate (128 - length t) 0 = p ∙ ap (λ (l : List ℕ). t ++ l) (ap (λ (k : ℕ). drop {A = ℕ} k (replicate 128 0)) (zero-add (length t)) ∙ drop-replicate (length t) 128 0) in
     let s : set b i 0x80 ≡ t ++ 0x80 ∷ replicate (127 - length t) 0 =
-    ap₂ (λ (l : List ℕ) (n : ℕ). set l n 0x80) q e ∙ marked t h in
+    ap₂ (λ (l : List ℕ) (n : ℕ). set l n 0x80) q (e ∙ zero-add (length t)) ∙ marked t h in
     let n : length (t ++ 0x80 ∷ replicate (127 - length t) 0) ≡ 128 =
     length-append t (0x80 ∷ replicate (127 - length t) 0) ∙ ap (λ (k : ℕ). length t + suc k) (length-replicate (127 - length t) 0) ∙ omega arith in
     let a : 64 * blocks (length t) ≡ (i + 72) / 64 * 64 - 8 + 8 = omega arith in
@@ -59,6 +51,34 @@ ending_is t b x i h e p =
     ∙ append_assoc t (0x80 ∷ replicate (64 * blocks (length t) - (length t + 9)) 0) (bytes_of 8 x)
 
 -- ---- blocks
+
+-- n blocks of m are worked into s, and r is left of it
+pub record Absorbed (m r : List ℕ) (s : Hash) (n : ℕ) : Type 0 where
+  pub within : 64 * n ≤ length m
+  pub left : r ≡ drop (64 * n) m
+  pub done : s ≡ after m n
+
+pub absorbed_none : (m r : List ℕ) → r ≡ m → Absorbed m r H0 0
+unfolding after
+absorbed_none m r e = record { within = omega arith; left = e; done = refl }
+
+pub absorbed_more : (m r rest b : List ℕ) (s t : Hash) (n k : ℕ) → Absorbed m r s n → r ≡ b ++ rest → length b ≡ 64 → t ≡ compress s b → k ≡ n + 1 → Absorbed m rest t k
+unfolding after
+absorbed_more m r rest b s t n k a e l f g =
+    let c : b ≡ take 64 (drop (64 * n) m) = sym (take_at b rest 64 l) ∙ ap (take 64) (sym e ∙ a.left) in
+    let d : 64 * n + 64 ≡ 64 * k = omega arith in
+    record {
+      within = omega (arith, ap length e, ap length a.left, length-append b rest, length-drop (64 * n) m);
+      left = sym (drop_at b rest 64 l) ∙ ap (drop 64) (sym e ∙ a.left) ∙ drop-drop 64 (64 * n) m ∙ ap (λ (i : ℕ). drop i m) d;
+      done = f ∙ ap₂ compress a.done c ∙ sym (ap (after m) (g ∙ add-one n));
+    }
+
+pub absorbed_all : (m r : List ℕ) (s : Hash) (n : ℕ) → Absorbed m r s n → length r < 64 → s ≡ after m (length m / 64)
+absorbed_all m r s n a h =
+    let w = a.within in
+    let e : n ≡ length m / 64 = omega (arith, ap length a.left, length-drop (64 * n) m) in
+    a.done ∙ ap (after m) e
+
 pub after_append : (m r : List ℕ) (n : ℕ) → 64 * n ≤ length m → after (m ++ r) n ≡ after m n
 unfolding after
 after_append m r zero h = refl

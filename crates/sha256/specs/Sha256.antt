@@ -1,13 +1,13 @@
 -- FIPS 180-4, sections 5.1.1 to 6.2.2: padding, the blocks, the hash value and the digest. Section 4 and the steps 1 to 4 of 6.2.2 are in
 -- crates/compression/specs, whose names are passed on. A message is a list of bytes, a digest 32 of them.
-use Rattle.std.specs.Prelude.{ℕ, zero, suc, ◌+◌, ◌-◌, ◌*◌, ◌/◌, List, ◌∷◌, ◌++◌, ltb, length, replicate}
+use Rattle.std.specs.Prelude.{ℕ, zero, suc, ◌+◌, ◌-◌, ◌*◌, ◌/◌, List, ◌∷◌, ◌++◌, ltb, length, replicate, Result, Ok, Err}
 use Rattle.words.specs.Choice.{pick}
 use Rattle.words.specs.Numbers.{bytes_of}
 use Rattle.words.specs.Splices.{part}
-use Rattle.verdict.specs.Verdicts.{accepted, too_long, longest}
+use Rattle.verdict.specs.Verdicts.{accepted, too_long, longest, number}
+use Rattle.verdict.specs.declared.Refusal.{Refusal}
 pub use Rattle.compression.specs.declared.Hash.{Hash}
 unfoldable pub use Rattle.compression.specs.Compression.{K, words, next, schedule, round, rounds, compress}
-use Rattle.sha256.specs.declared.Answer.{Answer}
 
 -- 5.1.1: the padded message: the message, the bit 1, the fewest zeros that end it in a whole block, and its length in bits
 -- as 64 bits. In bytes: 0x80, zeros, and eight bytes.
@@ -49,6 +49,16 @@ unfoldable pub sha256 : List ℕ → List ℕ
 sha256 m = hash_bytes (hash_of m)
 
 -- ---- the public call
+
+-- its answer: 0 and the digest, or the number of a refusal and 32 zero bytes
+pub record Answer : Type 0 where
+  pub verdict : ℕ
+  pub bytes : List ℕ
+
+-- what a call's outcome is told by
+abbrev pub answer : Result (List ℕ) Refusal → Answer
+answer (Ok b) = record { verdict = accepted; bytes = b }
+answer (Err r) = record { verdict = number r; bytes = replicate 32 0 }
 
 -- a longer message: 30 and 32 zero bytes
 unfoldable pub digest_of : List ℕ → Answer

@@ -1,49 +1,35 @@
-// SHA-256 (FIPS 180-4): the public digest call, and the hash of a lent buffer at full speed for the crates above.
-// Promises upward: every digest equals the standard's, for a message of any length; the public call refuses a long one.
+//! SHA-256 (FIPS 180-4): the public digest call, and the hash of a lent buffer at full speed for the crates above.
+//! Promises upward: every digest equals the standard's, for a message of any length; the public call refuses a long one.
 #![tactic(auto)]
 
 ghost use Rattle.std.specs.Prelude.{◌≡◌, ◌++◌, ◌+◌, ◌-◌, ◌*◌, ◌/◌, ◌%◌, ◌^◌, ◌<◌, length, take};
 ghost use Rattle.words.specs.Numbers.{four_at};
-ghost use Rattle.sha256.specs.Sha256.{K, H0, after, blocks, padding, hash_of, hash_bytes, digest_of};
+ghost use Rattle.sha256.specs.Sha256.{K, after, blocks, padding, hash_of, hash_bytes, digest_of, answer};
 
 use compression::{Hash, compressed, constants};
+use verdict::Refusal;
 use words::{Four, joined};
 
-// What the digest call answers: 0 and the digest, or 30 and zero bytes.
-#[derive(Clone, Copy)]
-pub struct Answer {
-    pub verdict: u32,
-    pub bytes: [u8; 32],
-}
-
-fn start() -> Hash
-    ensures { result ≡ H0 }
-{
-    Hash {
-        a: 0x6a09e667,
-        b: 0xbb67ae85,
-        c: 0x3c6ef372,
-        d: 0xa54ff53a,
-        e: 0x510e527f,
-        f: 0x9b05688c,
-        g: 0x1f83d9ab,
-        h: 0x5be0cd19,
-    }
-}
+// 5.3.3: the initial hash value. `H0` is this in the definitions.
+const INITIAL: Hash = Hash {
+    a: 0x6a09e667,
+    b: 0xbb67ae85,
+    c: 0x3c6ef372,
+    d: 0xa54ff53a,
+    e: 0x510e527f,
+    f: 0x9b05688c,
+    g: 0x1f83d9ab,
+    h: 0x5be0cd19,
+};
 
 // The whole blocks of a message; k is the table of constants. Inner.
 fn absorb(k: &[u32; 64], m: &[u8]) -> Hash
     requires { k.now ≡ K }
     ensures { result ≡ after m.now (length m.now / 64) }
 {
-    let n = m.len() / 64;
-    let mut s = start();
-    let mut i: usize = 0;
-    while i < n {
-        let at = 64 * i;
-        let e = at + 64;
-        s = compressed(s, k, &m[at..e]);
-        i += 1;
+    let mut s = INITIAL;
+    for b in m.chunks_exact(64) {
+        s = compressed(s, k, b);
     }
     s
 }
@@ -54,17 +40,13 @@ fn ending(t: &[u8], x: u64) -> [u8; 128]
     ensures { take (64 * blocks (length t.now)) result ≡ t.now ++ padding (length t.now) x }
 {
     let mut b = [0u8; 128];
-    let mut i: usize = 0;
-    while i < t.len() {
-        b[i] = t[i];
-        i += 1;
-    }
-    b[i] = 0x80;
-    words::put_word(&mut b, (i + 72) / 64 * 64 - 8, x);
+    let end = words::put_bytes(&mut b, 0, t);
+    b[end] = 0x80;
+    words::put_number::<8>(&mut b, (end + 72) / 64 * 64 - 8, x);
     b
 }
 
-// The hash value of a message. The length in bits is told modulo 2 ^ 64, as eight bytes tell it.
+/// The hash value of a message. The length in bits is told modulo 2 ^ 64, as eight bytes tell it.
 pub fn hash_of(m: &[u8]) -> Hash
     ensures { result ≡ hash_of m.now }
 {
@@ -80,7 +62,7 @@ pub fn hash_of(m: &[u8]) -> Hash
     }
 }
 
-// The hash value's bytes as four words.
+/// The hash value's bytes as four words.
 pub fn hash_words(s: Hash) -> Four
     ensures { result ≡ four_at (hash_bytes s) 0 }
 {
@@ -92,7 +74,7 @@ pub fn hash_words(s: Hash) -> Four
     }
 }
 
-// The hash value's bytes.
+/// The hash value's bytes.
 pub fn hash_bytes(s: Hash) -> [u8; 32]
     ensures { result ≡ hash_bytes s }
 {
@@ -101,19 +83,13 @@ pub fn hash_bytes(s: Hash) -> [u8; 32]
     b
 }
 
-// The digest of a message of at most 65,536 bytes; 30 for a longer one.
-pub fn digest(m: &[u8]) -> Answer
-    ensures { result ≡ digest_of m.now }
+/// The digest of a message of at most 65,536 bytes.
+#[tactic(auto, unfolding(crate::specs::Sha256::digest_of, crate::specs::Sha256::sha256))]
+pub fn digest(m: &[u8]) -> Result<[u8; 32], Refusal>
+    ensures { answer result ≡ digest_of m.now }
 {
     if verdict::LONGEST < m.len() {
-        return Answer {
-            verdict: verdict::TOO_LONG,
-            bytes: [0; 32],
-        };
+        return Err(Refusal::TooLong);
     }
-    let d = hash_bytes(hash_of(m));
-    Answer {
-        verdict: verdict::ACCEPTED,
-        bytes: d,
-    }
+    Ok(hash_bytes(hash_of(m)))
 }

@@ -9,17 +9,14 @@ use lib.Dec.{eqb, ltb}
 use lib.ListN.{length, get_or, take, drop, length-append, length-drop, take-append-drop}
 use lib.Seq.{drop_at, length-take-le}
 use borrow.Author.Tests.{ne_eqb, le-ltb, eqb-false, ltb-false}
+use Rattle.std.specs.Prelude.{Option, Some, None}
 use Rattle.words.specs.Numbers.{zeros, Bytes}
 use Rattle.words.proofs.Laws.{picked, part_one, part_step, never}
 use Rattle.key.specs.Keys.{key_at, key_bytes, well_key, KeyFits}
 use Rattle.key.specs.declared.Key.{Key}
-use Rattle.key.specs.declared.KeyRead.{KeyRead}
-use Rattle.key.specs.declared.KeyRead.TheVariants as kr
 use Rattle.key.proofs.Laws.{key_back, key_length, key_same, key_well, key_fits}
 use Rattle.value.specs.Values.{value_at, value_bytes, well_value, ValueFits}
 use Rattle.value.specs.declared.Value.{Value}
-use Rattle.value.specs.declared.ValueRead.{ValueRead}
-use Rattle.value.specs.declared.ValueRead.TheVariants as vr
 use Rattle.value.proofs.Back.{value_back}
 use Rattle.value.proofs.Same.{value_same}
 use Rattle.slot.specs.Slots.{slot_length, filled, slot_bytes, all_zero, slot_end, slot_then, slot_at}
@@ -38,8 +35,8 @@ pub record SlotRead (s : List ℕ) (o : ℕ) (k : Key) (x : Value) : Type 0 wher
   pub first : get_or s 0 0 ≡ o
   pub low : 1 ≤ o
   pub high : o ≤ 2
-  pub key : key_at s 1 ≡ kr.Good k
-  pub value : value_at s 35 ≡ vr.Good x used
+  pub key : key_at s 1 ≡ Some k
+  pub value : value_at s 35 ≡ Some (x, used)
   pub rest : all_zero (drop (35 + used) s) ≡ true
 
 slot_moved : (s : List ℕ) (o p : ℕ) (k j : Key) (x y : Value) → SlotRead s o k x → Full o k x ≡ Full p j y → SlotRead s p j y
@@ -53,17 +50,17 @@ slot_read s o k x e =
     λ a q. picked (ltb 2 (get_or s 0 0)) _ _ _ q (λ _ u. never cc)
     λ b u. key_part (eqb-false _ _ a) (ltb-false _ _ b) (key_at s 1) refl u
   where
-    value_part : (get_or s 0 0 ≡ 0 → ⊥) → get_or s 0 0 ≤ 2 → (j : Key) → key_at s 1 ≡ kr.Good j → (r : ValueRead) → value_at s 35 ≡ r
+    value_part : (get_or s 0 0 ≡ 0 → ⊥) → get_or s 0 0 ≤ 2 → (j : Key) → key_at s 1 ≡ Some j → (r : Option (Value × ℕ)) → value_at s 35 ≡ r
         → slot_end (get_or s 0 0) j s r ≡ Full o k x → SlotRead s o k x
-    value_part a b j f vr.Bad g q = never cc
-    value_part a b j f (vr.Good y n) g q =
+    value_part a b j f None g q = never cc
+    value_part a b j f (Some (y, n)) g q =
         picked (all_zero (drop (35 + n) s)) _ _ _ q
         (λ z u. slot_moved s _ o j k y x (record { used = n; first = refl; low = omega arith; high = b; key = f; value = g; rest = z }) u)
         (λ _ u. never cc)
 
-    key_part : (get_or s 0 0 ≡ 0 → ⊥) → get_or s 0 0 ≤ 2 → (r : KeyRead) → key_at s 1 ≡ r → slot_then (get_or s 0 0) s r ≡ Full o k x → SlotRead s o k x
-    key_part a b kr.Bad g q = never cc
-    key_part a b (kr.Good j) g q = value_part a b j g (value_at s 35) refl q
+    key_part : (get_or s 0 0 ≡ 0 → ⊥) → get_or s 0 0 ≤ 2 → (r : Option Key) → key_at s 1 ≡ r → slot_then (get_or s 0 0) s r ≡ Full o k x → SlotRead s o k x
+    key_part a b None g q = never cc
+    key_part a b (Some j) g q = value_part a b j g (value_at s 35) refl q
 
 -- ---- what is read as a record is well formed
 
@@ -121,7 +118,7 @@ module _ (o : ℕ) (k : Key) (x : Value) (kept : Kept o k x) where
   front_length : length ((o ∷ []) ++ key_bytes k) ≡ 35
   front_length = length-append (o ∷ []) (key_bytes k) ∙ ap (λ (n : ℕ). 1 + n) (key_length k)
 
-  written_value : value_at ((o ∷ []) ++ (key_bytes k ++ (value_bytes x ++ rest))) 35 ≡ vr.Good x (length (value_bytes x))
+  written_value : value_at ((o ∷ []) ++ (key_bytes k ++ (value_bytes x ++ rest))) 35 ≡ Some (x, length (value_bytes x))
   written_value =
       ap (λ (l : List ℕ). value_at l 35) (front (value_bytes x ++ rest))
       ∙ value_back 35 ((o ∷ []) ++ key_bytes k) rest front_length x kept.value_fits kept.value

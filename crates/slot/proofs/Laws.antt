@@ -1,17 +1,19 @@
 -- Laws of a slot as it is written: zeros, the tail's test, its length and its bytes. Assumes nothing.
-use Prim.Native.Nat.{ℕ, zero, suc, ◌+◌, ◌*◌, ◌-◌, ◌≤◌, ◌<◌}
+use Prim.Native.Nat.{ℕ, zero, suc, ◌-◌, ◌≤◌, ◌<◌}
 use mathlib.Core.Path.{◌≡◌, refl, ap, sym, ◌∙◌}
 use mathlib.Core.List.{List, [], ◌∷◌, ◌++◌}
-use mathlib.Core.Bool.{Bool, true, false}
+use mathlib.Core.Bool.{true}
 use native.Mathlib.Omega.{arith}
-use native.Mathlib.Numerals.{add-one}
-use native.Mathlib.Nat.{add-suc, add-zero, suc-sub-suc, sub-zero, zero-sub, zero-add}
+use native.Mathlib.Nat.{suc-sub-suc, sub-zero, zero-sub, zero-add}
 use lib.Dec.{eqb, lit<}
-use lib.ListN.{length, get_or, take, drop, length-append}
-use lib.Seq.{drop-cons}
-use borrow.Author.Tests.{eq-eqb, ne_eqb, eqb-true}
+use lib.ListN.{length, take, drop, length-append}
+use borrow.Author.Tests.{ne_eqb, eqb-true}
+use Rattle.std.specs.Prelude.{bit_or, fold}
+use Rattle.std.specs.Int.Bits.{or_zero_l}
+use Rattle.std.proofs.lemmas.Nat.{le_or_l}
+use Rattle.std.proofs.Math.Bool.{and-true, and_assoc}
 use Rattle.words.specs.Choice.{both}
-use Rattle.words.specs.Numbers.{number_at, zeros, Bytes}
+use Rattle.words.specs.Numbers.{zeros, Bytes}
 use Rattle.words.specs.Splices.{splice}
 use Rattle.words.proofs.Laws.{both_true, zeros_length, no_bytes, one_byte, append_bytes}
 use Rattle.key.specs.Keys.{key_bytes}
@@ -25,38 +27,18 @@ use Rattle.slot.specs.Slots.{slot_length, all_zero, filled, slot_bytes}
 
 -- ---- the test of zeros
 
-module _ (s : List ℕ) (i : ℕ) (h : i < length s) where
-  pub zero_more : get_or s i 0 ≡ 0 → all_zero (drop (i + 1) s) ≡ all_zero (drop i s)
-  unfolding all_zero
-  zero_more e = rw (add-one, drop-cons s i 0, eq-eqb _ _ e)
+or_zero : (x y : ℕ) → eqb (bit_or x y) 0 ≡ both (eqb x 0) (eqb y 0)
+or_zero zero y = rw (or_zero_l y)
+or_zero (suc x) y = rw (ne_eqb (suc x) 0 (λ e. omega arith), ne_eqb (bit_or (suc x) y) 0 (λ e. omega (arith, le_or_l (suc x) y)))
 
-  pub zero_stop : (get_or s i 0 ≡ 0 → ⊥) → false ≡ all_zero (drop i s)
-  unfolding all_zero
-  zero_stop e = rw (drop-cons s i 0, ne_eqb _ _ e)
-
--- n bytes are all zero where the number that they make is
-both_zero : (x y : ℕ) (b : Bool) → both (eqb (x * 256 + y) 0) b ≡ both (eqb x 0) (both (eqb y 0) b)
-both_zero zero zero b = refl
-both_zero zero (suc y) b = rw (zero-add (suc y))
-both_zero (suc x) y b = rw (ne_eqb (suc x * 256 + y) 0 (λ e. omega arith), ne_eqb (suc x) 0 (λ e. omega arith))
-
-zero_one : (s : List ℕ) (i : ℕ) → i < length s → all_zero (drop i s) ≡ both (eqb (get_or s i 0) 0) (all_zero (drop (suc i) s))
+or_from : (x : ℕ) (s : List ℕ) → eqb (fold bit_or x s) 0 ≡ both (eqb x 0) (all_zero s)
 unfolding all_zero
-zero_one s i h = rw (drop-cons s i 0)
+or_from x [] = sym (and-true (eqb x 0))
+or_from x (y ∷ s) = rw (or_from (bit_or x y) s, or_zero x y, and_assoc (eqb x 0) (eqb y 0) (all_zero s))
 
-pub zero_number : (n : ℕ) (s : List ℕ) (i : ℕ) → i + n ≤ length s → all_zero (drop i s) ≡ both (eqb (number_at n s i) 0) (all_zero (drop (i + n) s))
-unfolding number_at
-zero_number zero s i h = rw add-zero
-zero_number (suc n) s i h =
-    zero_number n s i (omega arith) ∙ rw (both_zero (number_at n s i) (get_or s (i + n) 0), add-suc) (ap (both (eqb (number_at n s i) 0)) (zero_one s (i + n) (omega arith)))
-
--- a word that is zero, and one that is not
-module _ (n : ℕ) (s : List ℕ) (i : ℕ) (h : i + n ≤ length s) where
-  pub zero_on : number_at n s i ≡ 0 → all_zero (drop (i + n) s) ≡ all_zero (drop i s)
-  zero_on e = sym (zero_number n s i h ∙ rw (eq-eqb _ _ e))
-
-  pub zero_off : (number_at n s i ≡ 0 → ⊥) → false ≡ all_zero (drop i s)
-  zero_off e = sym (zero_number n s i h ∙ rw (ne_eqb _ _ e))
+-- bytes are all zero where no bit of any is set
+pub none_set : (s : List ℕ) → eqb (fold bit_or 0 s) 0 ≡ all_zero s
+none_set s = or_from 0 s
 
 -- zeros are all zero, and what is all zero is zeros
 pub all_zero_lem : (n : ℕ) → all_zero (zeros n) ≡ true

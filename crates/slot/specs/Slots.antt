@@ -1,15 +1,11 @@
 -- A slot (document 01, "The trusted state"): origin (0 free, 1 tree, 2 deferred), key (34), value, zeros. A free slot is all zero.
-use Rattle.std.specs.Prelude.{ℕ, ◌+◌, ◌-◌, List, [], ◌∷◌, ◌++◌, Bool, true, length, get_or, drop, ltb, eqb}
+use Rattle.std.specs.Prelude.{ℕ, ◌+◌, ◌-◌, List, [], ◌∷◌, ◌++◌, Bool, true, Option, Some, None, length, get_or, drop, ltb, eqb}
 use Rattle.words.specs.Choice.{pick, both}
 use Rattle.words.specs.Numbers.{zeros}
 use Rattle.key.specs.Keys.{key_at, key_bytes}
 use Rattle.key.specs.declared.Key.{Key}
-use Rattle.key.specs.declared.KeyRead.{KeyRead}
-use Rattle.key.specs.declared.KeyRead.TheVariants as kr
 use Rattle.value.specs.Values.{value_at, value_bytes}
 use Rattle.value.specs.declared.Value.{Value}
-use Rattle.value.specs.declared.ValueRead.{ValueRead}
-use Rattle.value.specs.declared.ValueRead.TheVariants as vr
 use Rattle.slot.specs.declared.Slot.{Slot}
 use Rattle.slot.specs.declared.Slot.TheVariants.{Free, Full, Bad}
 
@@ -38,13 +34,13 @@ unfoldable pub all_zero : List ℕ → Bool
 all_zero [] = true
 all_zero (x ∷ xs) = both (eqb x 0) (all_zero xs)
 
-abbrev pub slot_end : ℕ → Key → List ℕ → ValueRead → Slot
-slot_end o k s vr.Bad = Bad
-slot_end o k s (vr.Good v n) = pick (all_zero (drop (35 + n) s)) (Full o k v) Bad
+abbrev pub slot_end : ℕ → Key → List ℕ → Option (Value × ℕ) → Slot
+slot_end o k s None = Bad
+slot_end o k s (Some (v, n)) = pick (all_zero (drop (35 + n) s)) (Full o k v) Bad
 
-abbrev pub slot_then : ℕ → List ℕ → KeyRead → Slot
-slot_then o s kr.Bad = Bad
-slot_then o s (kr.Good k) = slot_end o k s (value_at s 35)
+abbrev pub slot_then : ℕ → List ℕ → Option Key → Slot
+slot_then o s None = Bad
+slot_then o s (Some k) = slot_end o k s (value_at s 35)
 
 unfoldable pub slot_at : List ℕ → Slot
 slot_at s =

@@ -7,15 +7,14 @@ use Rattle.words.specs.Numbers.{zeros}
 use Rattle.cache.specs.Caches.{well_length}
 use Rattle.state.specs.States.{well_state, fresh_state, advanced_state, closed_state, zero_state, open_def, settled}
 use Rattle.state.specs.declared.Tally.{Tally}
-use Rattle.state.specs.declared.Old.{Old}
-use Rattle.state.specs.declared.Old.TheVariants.{Closed, Open}
+use Rattle.std.specs.Prelude.{Option, Some, None}
 use Rattle.state.specs.declared.State.{State}
 use Rattle.cmac.specs.Tags.{no_tag}
 
 abbrev counts : ℕ → ℕ → Tally
 counts a e = record { adds = a; evicts = e; addsum = no_tag; evictsum = no_tag }
 
-abbrev at : ℕ → ℕ → Tally → Old → State
+abbrev at : ℕ → ℕ → Tally → Option Tally → State
 at clock epoch t o = record { set = record { k0 = 0; k1 = 0 }; clock = record { 0 = clock }; epoch = record { 0 = epoch }; tally = t; old = o }
 
 -- a state of zeros is not well formed, and epochs are 1 to 1,000,000
@@ -23,38 +22,38 @@ zeros_refused : well_state zero_state ≡ false
 unfolding well_state
 zeros_refused = refl
 
-last_epoch : well_state (at 0 1000000 (counts 0 0) Closed) ≡ true
+last_epoch : well_state (at 0 1000000 (counts 0 0) None) ≡ true
 unfolding well_state
 last_epoch = refl
 
-past_the_last_epoch : well_state (at 0 1000001 (counts 0 0) Closed) ≡ false
+past_the_last_epoch : well_state (at 0 1000001 (counts 0 0) None) ≡ false
 unfolding well_state
 past_the_last_epoch = refl
 
 -- no old epoch at epoch 1
-old_at_one : well_state (at 0 1 (counts 0 0) (Open (counts 0 0))) ≡ false
+old_at_one : well_state (at 0 1 (counts 0 0) (Some (counts 0 0))) ≡ false
 unfolding well_state
 old_at_one = refl
 
-old_at_two : well_state (at 0 2 (counts 0 0) (Open (counts 1000000 1000000))) ≡ true
+old_at_two : well_state (at 0 2 (counts 0 0) (Some (counts 1000000 1000000))) ≡ true
 unfolding well_state
 old_at_two = refl
 
 -- counts at most 1,000,000, the old epoch's too
-counts_over : well_state (at 0 2 (counts 1000001 0) Closed) ≡ false
+counts_over : well_state (at 0 2 (counts 1000001 0) None) ≡ false
 unfolding well_state
 counts_over = refl
 
-old_counts_over : well_state (at 0 2 (counts 0 0) (Open (counts 0 1000001))) ≡ false
+old_counts_over : well_state (at 0 2 (counts 0 0) (Some (counts 0 1000001))) ≡ false
 unfolding well_state
 old_counts_over = refl
 
 -- the clock at its bound, and past it
-clock_at_bound : well_state (at 2000003 3 (counts 0 3) Closed) ≡ true
+clock_at_bound : well_state (at 2000003 3 (counts 0 3) None) ≡ true
 unfolding well_state
 clock_at_bound = refl
 
-clock_past_bound : well_state (at 2000004 3 (counts 0 3) Closed) ≡ false
+clock_past_bound : well_state (at 2000004 3 (counts 0 3) None) ≡ false
 unfolding well_state
 clock_past_bound = refl
 

@@ -24,7 +24,7 @@ use Rattle.cache.proofs.Well.{length_slots}
 use Rattle.cache.proofs.Opened.{opened_splice, opened_well, opened_well_length}
 use Rattle.state.specs.States.{epoch_limit, count_limit, clock_limit, well_tally, well_old, well_state, added_current, added_old, evicted_state, evicted, advanced_state, closed_state, fresh_state, zero_state, Opening, opening, open_def}
 use Rattle.state.specs.declared.Tally.{Tally}
-use Rattle.state.specs.declared.Old.TheVariants.{Open}
+use Rattle.std.specs.Prelude.{Some}
 use Rattle.state.specs.declared.State.{State}
 
 -- ---- well formed
@@ -76,7 +76,7 @@ module _ (st : State) (e : well_state st ≡ true) where
       (record { low = w.low; high = w.high; old = w.old; adds = omega arith; evicts = w.evicts; clock = w.clock })
 
   -- t is the tally of the old epoch, as it is open
-  pub added_old_well : (t : Tally) (g : Tag) → st.old ≡ Open t → t.adds < count_limit → well_state (added_old st t g) ≡ true
+  pub added_old_well : (t : Tally) (g : Tag) → st.old ≡ Some t → t.adds < count_limit → well_state (added_old st t g) ≡ true
   unfolding added_old
   added_old_well t g o h =
       let w = well_parts st e in

@@ -1,18 +1,21 @@
-// The trusted state and its changes, its part of well-formedness, and opening.
-// Promises upward: each change is the definition's, and an opened state with its cache is well formed.
+//! The trusted state and its changes, its part of well-formedness, and opening.
+//! Promises upward: each change is the definition's, and an opened state with its cache is well formed.
 #![tactic(auto)]
 
 ghost use Rattle.std.specs.Prelude.{◌≡◌, ◌+◌, ◌*◌, ◌-◌, ◌≤◌, ◌<◌, leb};
-ghost use Rattle.state.specs.States.{epoch_limit, count_limit, clock_limit, well_tally, well_old, well_state, no_tally, tally_add, tally_evict, added_current, added_old, evicted_state, evict_message, advanced_state, closed_state, fresh_state, zero_state, opening, open_def, settled};
+ghost use Rattle.aes.specs.Aes.{expansion};
+ghost use Rattle.hash.specs.Hashes.{set_bytes, tag_of};
+ghost use Rattle.state.specs.States.{epoch_limit, count_limit, clock_limit, well_tally, well_old, well_state, tally_add, tally_evict, added_current, added_old, evicted_state, evict_message, advanced_state, closed_state, fresh_state, opening, opened, open_def, settled};
 
+use aes::Expanded;
 use cmac::Tag;
 use hash::SetKey;
 use key::Key;
 use message::{Epoch, Message, Time};
 use value::Value;
-use words::{and, less, not};
+use verdict::Refusal;
 
-// The most that an epoch may be, and that a count may be.
+/// The most that an epoch may be, and that a count may be.
 pub const EPOCH_LIMIT: u64 = 1000000;
 
 pub const COUNT_LIMIT: u64 = 1000000;
@@ -20,8 +23,8 @@ pub const COUNT_LIMIT: u64 = 1000000;
 // The first epoch, before which there is no old one.
 const FIRST_EPOCH: u64 = 1;
 
-// An epoch's counts and sums.
-#[derive(Clone, Copy)]
+/// An epoch's counts and sums.
+#[derive(Clone, Copy, Debug, PartialEq, Eq)]
 pub struct Tally {
     pub adds: u64,
     pub evicts: u64,
@@ -29,46 +32,38 @@ pub struct Tally {
     pub evictsum: Tag,
 }
 
-// The old epoch, if one is open: closed, there are no counts and sums of it at all.
-#[derive(Clone, Copy)]
-pub enum Old {
-    Closed,
-    Open(Tally),
-}
-
-// The set key, the clock, the current epoch with its tally, and the old epoch, always the current one less 1.
+/// The set key, the clock, the current epoch with its tally, and the old epoch's tally, if one is open: it is always the current one less 1, and
+/// closed, there are no counts and sums of it at all.
 #[derive(Clone, Copy)]
 pub struct State {
     pub set: SetKey,
     pub clock: Time,
     pub epoch: Epoch,
     pub tally: Tally,
-    pub old: Old,
+    pub old: Option<Tally>,
 }
 
-// What opening answers: 0 and a fresh state, or 28 and a state of zeros.
+/// A state together with its set key's expansion, which is made once for a run.
 #[derive(Clone, Copy)]
-pub struct Opened {
-    pub verdict: u32,
+pub struct Keyed {
     pub state: State,
+    pub expanded: Expanded,
+    pub ghost of_its_key: { expanded.bytes ≡ expansion (set_bytes state.set) },
 }
 
-fn no_tally() -> Tally
-    ensures { result ≡ no_tally }
-{
-    Tally {
+impl Tally {
+    /// Of no messages.
+    pub const NONE: Tally = Tally {
         adds: 0,
         evicts: 0,
         addsum: Tag::ZERO,
         evictsum: Tag::ZERO,
-    }
-}
+    };
 
-impl Tally {
     fn well(self) -> bool
         ensures { result ≡ well_tally self }
     {
-        and(self.adds <= COUNT_LIMIT, self.evicts <= COUNT_LIMIT)
+        self.adds <= COUNT_LIMIT && self.evicts <= COUNT_LIMIT
     }
 
     // A message more in the adds. Inner.
@@ -76,13 +71,10 @@ impl Tally {
         requires { self.adds < count_limit }
         ensures { result ≡ tally_add self g }
     {
-        let a = self.addsum;
-        let e = self.evictsum;
         Tally {
             adds: self.adds + 1,
-            evicts: self.evicts,
-            addsum: a.xor(g),
-            evictsum: e,
+            addsum: self.addsum ^ g,
+            ..self
         }
     }
 
@@ -91,153 +83,132 @@ impl Tally {
         requires { self.evicts < count_limit }
         ensures { result ≡ tally_evict self g }
     {
-        let a = self.addsum;
-        let e = self.evictsum;
         Tally {
-            adds: self.adds,
             evicts: self.evicts + 1,
-            addsum: a,
-            evictsum: e.xor(g),
+            evictsum: self.evictsum ^ g,
+            ..self
         }
     }
 }
 
-fn well_old(e: u64, o: Old) -> bool
-    ensures { result ≡ well_old e o }
+fn well_old(e: u64, old: Option<Tally>) -> bool
+    ensures { result ≡ well_old e old }
 {
-    match o {
-        Old::Closed => true,
-        Old::Open(t) => and(not(e == FIRST_EPOCH), t.well()),
+    match old {
+        None => true,
+        Some(t) => e != FIRST_EPOCH && t.well(),
     }
 }
 
-// The clock is at most 1,000,000 times (current less 1) plus the current evict count. Inner.
+// The clock is at most 1,000,000 times (current less 1) plus the current evict count. No clock is above the largest word, so the bound may stop there.
 fn well_clock(clock: u64, e: u64, evicts: u64) -> bool
-    requires { (1 ≤ e) × (e ≤ epoch_limit) × (evicts ≤ count_limit) }
     ensures { result ≡ leb clock (count_limit * (e - 1) + evicts) }
 {
-    clock <= COUNT_LIMIT * (e - 1) + evicts
+    clock
+        <= COUNT_LIMIT
+            .saturating_mul(e.saturating_sub(1))
+            .saturating_add(evicts)
 }
 
 impl State {
-    // The state's part of 1.
+    /// The state's part of 1.
+    #[tactic(auto, unfolding(crate::specs::States::well_state))]
     pub fn well(self) -> bool
         ensures { result ≡ well_state self }
     {
         let e = self.epoch.0;
-        let t = self.tally;
-        let o = self.old;
-        if and(FIRST_EPOCH <= e, e <= EPOCH_LIMIT) {
-            if well_old(e, o) {
-                if t.well() {
-                    return well_clock(self.clock.0, e, t.evicts);
-                }
-            }
-        }
-        false
+        FIRST_EPOCH <= e
+            && e <= EPOCH_LIMIT
+            && well_old(e, self.old)
+            && self.tally.well()
+            && well_clock(self.clock.0, e, self.tally.evicts)
     }
 
-    // The last epoch settled: current less 1, or less 2 with an old epoch open.
+    /// The last epoch settled: current less 1, or less 2 with an old epoch open.
+    #[tactic(auto, unfolding(crate::specs::States::settled))]
     pub fn settled(self) -> u64
         ensures { result ≡ settled self }
     {
-        let o = self.old;
-        match o {
-            Old::Closed => less(self.epoch.0, 1),
-            Old::Open(_) => less(self.epoch.0, 2),
+        match self.old {
+            None => self.epoch.0.saturating_sub(1),
+            Some(_) => self.epoch.0.saturating_sub(2),
         }
     }
 
-    // Entry 2, into the current epoch. Inner.
+    /// Entry 2, into the current epoch. Inner.
+    #[tactic(auto, unfolding(crate::specs::States::added_current))]
     pub fn added_current(self, g: Tag) -> State
         requires { self.tally.adds < count_limit }
         ensures { result ≡ added_current self g }
     {
-        let t = self.tally;
-        let mut next = self;
-        next.tally = t.added(g);
-        next
+        State {
+            tally: self.tally.added(g),
+            ..self
+        }
     }
 
-    // Entry 2, into the old epoch, whose tally the caller has in hand. Inner.
+    /// Entry 2, into the old epoch, whose tally the caller has in hand. Inner.
+    #[tactic(auto, unfolding(crate::specs::States::added_old))]
     pub fn added_old(self, t: Tally, g: Tag) -> State
         requires { t.adds < count_limit }
         ensures { result ≡ added_old self t g }
     {
-        let k = self.set;
-        let c = self.clock;
-        let e = self.epoch;
-        let n = self.tally;
         State {
-            set: k,
-            clock: c,
-            epoch: e,
-            tally: n,
-            old: Old::Open(t.added(g)),
+            old: Some(t.added(g)),
+            ..self
         }
     }
 
-    // Entries 4 and 5: the clock rises by one, and the message goes into the current epoch's evicts. Inner.
+    /// Entries 4 and 5: the clock rises by one, and the message goes into the current epoch's evicts. Inner.
+    #[tactic(auto, unfolding(crate::specs::States::evicted_state))]
     pub fn evicted_state(self, g: Tag) -> State
         requires { (self.clock.0 ≤ clock_limit) × (self.tally.evicts < count_limit) }
         ensures { result ≡ evicted_state self g }
     {
-        let t = self.tally;
-        let mut next = self;
-        let c = Time(self.clock.0 + 1);
-        next.clock = c;
-        next.tally = t.evicted(g);
-        next
-    }
-
-    // The message of a record that leaves now: the current epoch, the new clock. Inner.
-    pub fn evict_message(self, k: Key, v: Value) -> Message
-        requires { self.clock.0 ≤ clock_limit }
-        ensures { result ≡ evict_message self k v }
-    {
-        let e = self.epoch;
-        Message {
-            epoch: e,
-            time: Time(self.clock.0 + 1),
-            key: k,
-            value: v,
+        State {
+            clock: Time(self.clock.0 + 1),
+            tally: self.tally.evicted(g),
+            ..self
         }
     }
 
-    // Entry 9: the current epoch becomes the old one; a new one opens with zeros. Inner.
+    /// The message of a record that leaves now: the current epoch, the new clock. Inner.
+    #[tactic(auto, unfolding(crate::specs::States::evict_message))]
+    pub fn evict_message(self, key: Key, value: Value) -> Message
+        requires { self.clock.0 ≤ clock_limit }
+        ensures { result ≡ evict_message self key value }
+    {
+        Message {
+            epoch: self.epoch,
+            time: Time(self.clock.0 + 1),
+            key,
+            value,
+        }
+    }
+
+    /// Entry 9: the current epoch becomes the old one; a new one opens with zeros. Inner.
+    #[tactic(auto, unfolding(crate::specs::States::advanced_state))]
     pub fn advanced(self) -> State
         requires { self.epoch.0 < epoch_limit }
         ensures { result ≡ advanced_state self }
     {
-        let k = self.set;
-        let c = self.clock;
-        let t = self.tally;
         State {
-            set: k,
-            clock: c,
             epoch: Epoch(self.epoch.0 + 1),
-            tally: no_tally(),
-            old: Old::Open(t),
+            tally: Tally::NONE,
+            old: Some(self.tally),
+            ..self
         }
     }
 
-    // Entry 10: the old epoch is closed and settled.
+    /// Entry 10: the old epoch is closed and settled.
+    #[tactic(auto, unfolding(crate::specs::States::closed_state))]
     pub fn closed(self) -> State
         ensures { result ≡ closed_state self }
     {
-        let k = self.set;
-        let c = self.clock;
-        let e = self.epoch;
-        let t = self.tally;
-        State {
-            set: k,
-            clock: c,
-            epoch: e,
-            tally: t,
-            old: Old::Closed,
-        }
+        State { old: None, ..self }
     }
 
+    #[tactic(auto, unfolding(crate::specs::States::fresh_state))]
     fn fresh(key: &[u8; hash::SET_KEY_BYTES]) -> State
         ensures { result ≡ fresh_state key.now }
     {
@@ -245,40 +216,51 @@ impl State {
             set: hash::set_key(key),
             clock: Time(0),
             epoch: Epoch(FIRST_EPOCH),
-            tally: no_tally(),
-            old: Old::Closed,
-        }
-    }
-
-    // A state of zeros, as a refused opening gives it.
-    fn zero() -> State
-        ensures { result ≡ zero_state }
-    {
-        State {
-            set: SetKey { k0: 0, k1: 0 },
-            clock: Time(0),
-            epoch: Epoch(0),
-            tally: no_tally(),
-            old: Old::Closed,
+            tally: Tally::NONE,
+            old: None,
         }
     }
 }
 
-// A fresh state, with the root in slot 0 of the lent cache and zeros behind; or 28, and the cache untouched.
-pub fn open(key: &[u8; hash::SET_KEY_BYTES], cache: &mut [u8]) -> Opened
-    ensures { opening result cache.new ≡ open_def key.now cache.old }
+impl Keyed {
+    pub fn new(state: State) -> Keyed
+        ensures { result.state ≡ state }
+    {
+        Keyed {
+            state,
+            expanded: hash::expanded(state.set),
+        }
+    }
+
+    /// Another state under the same set key. Inner.
+    pub fn with(&self, state: State) -> Keyed
+        requires { state.set ≡ self.now.state.set }
+        ensures { result.state ≡ state }
+    {
+        Keyed {
+            state,
+            expanded: self.expanded,
+        }
+    }
+
+    /// The tag of a message under the set key.
+    #[tactic(auto, unfolding(hash::specs::Hashes::tag_of))]
+    pub fn tag_of(&self, m: Message) -> Tag
+        ensures { result ≡ tag_of self.now.state.set m }
+    {
+        hash::tag_of(&self.expanded, m)
+    }
+}
+
+/// A fresh state, with the root in slot 0 of the lent cache and zeros behind; or 28, and the cache untouched.
+pub fn open(key: &[u8; hash::SET_KEY_BYTES], cache: &mut [u8]) -> Result<State, Refusal>
+    ensures { opening (opened result) cache.new ≡ open_def key.now cache.old }
 {
     if cache::well_length(cache) {
         slot::clear(cache);
         let root = Value::Node(tree::bare_node());
-        slot::set_slot(cache, 0, slot::ORIGIN_TREE, Key::root(), root);
-        return Opened {
-            verdict: verdict::ACCEPTED,
-            state: State::fresh(key),
-        };
+        slot::set_slot(cache, 0, slot::ORIGIN_TREE, Key::ROOT, root);
+        return Ok(State::fresh(key));
     }
-    Opened {
-        verdict: verdict::WRONG_CACHE,
-        state: State::zero(),
-    }
+    Err(Refusal::WrongCache)
 }

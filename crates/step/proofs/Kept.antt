@@ -1,5 +1,6 @@
 -- A step on a state and a cache that are well formed leaves them so, the set key as it is and the cache as long as it was: what lets a run
 -- decide it once, expand the set key once, and go on by the inner step. Assumes nothing.
+use Rattle.std.specs.Prelude.{Option, Some, None, Ok, Err}
 use Prim.Native.Nat.{ℕ, ◌*◌, ◌-◌, ◌≤◌, ◌<◌}
 use mathlib.Core.Path.{◌≡◌, refl, ap, sym, ◌∙◌}
 use mathlib.Core.List.{List}
@@ -28,11 +29,10 @@ use Rattle.value.specs.declared.Value.{Value}
 use Rattle.value.specs.declared.Value.TheVariants as v
 use Rattle.message.specs.declared.Epoch.{Epoch}
 use Rattle.message.specs.declared.Time.{Time}
-use Rattle.entry.specs.Entries.{read_entry, reading_used, well_entry}
+use Rattle.entry.specs.Entries.{Reading, read_entry, reading_used, well_entry}
 use Rattle.entry.specs.declared.Entry.{Entry}
 use Rattle.entry.specs.declared.Entry.TheVariants.{AddTree, AddDeferred, EvictTree, EvictDeferred, EvictTreeDeferred, Get, Absent, Put, Advance, Close}
-use Rattle.entry.specs.declared.Reading.{Reading}
-use Rattle.entry.specs.declared.Reading.TheVariants as reading
+use Rattle.entry.specs.declared.Unread.TheVariants as unread
 use Rattle.writer.specs.Writings.{EntryFits}
 use Rattle.writer.proofs.Same.{entry_same}
 use Rattle.hash.specs.Hashes.{digest_of, tag_of}
@@ -46,12 +46,10 @@ use Rattle.cache.proofs.Slots.{put_here, put_other, put_length, put_count, free_
 use Rattle.cache.proofs.Found.{held_nowhere, nowhere_held}
 use Rattle.cache.proofs.Well.{WellSlots, length_slots, well_slots, slots_well, free_well, add_well, replace_well}
 use Rattle.state.specs.States.{count_limit, epoch_limit, well_state, added_current, added_old, evicted_state, evicted, advanced_state, closed_state}
-use Rattle.state.specs.declared.Old as old
-use Rattle.state.specs.declared.Old.TheVariants.{Closed, Open}
 use Rattle.state.specs.declared.Tally.{Tally}
 use Rattle.state.specs.declared.State.{State}
 use Rattle.state.proofs.Laws.{added_current_well, added_old_well, evicted_well, advanced_well, closed_well}
-use Rattle.rules.specs.Outcomes.{Outcome, outcome, refuses, accepts}
+use Rattle.rules.specs.Outcomes.{Done, Outcome, outcome, refuses, accepts}
 use Rattle.rules.specs.Adds.{linked, add_side, add_link, add_node, add_to, add_under, add_at, add_tree, named_epoch, named_old, in_time, add_message, add_named, add_into, defer_at, add_deferred}
 use Rattle.rules.specs.Evicts.{unlinked, evict_side, evict_link, evict_node, evict_to, evict_under, evict_at, evict_by, deferred_at, evict_deferred}
 use Rattle.rules.specs.Answers as answers
@@ -59,7 +57,6 @@ use Rattle.rules.specs.Answers.{put_into}
 use Rattle.rules.specs.Epochs as epochs
 use Rattle.rules.specs.Epochs.{advance_old, close_old}
 use Rattle.rules.specs.Steps.{Step, entry_step, taking, step_read, step_well, well_formed, step}
-use Rattle.rules.specs.declared.Done as done
 use Rattle.rules.specs.declared.Named.{Named}
 use Rattle.rules.specs.declared.Named.TheVariants as named
 
@@ -284,24 +281,24 @@ module _ (st : State) (c : List ℕ) (w : well_state st ≡ true) (s : WellSlots
   -- ---- 2
 
   -- the old epoch that an add names is open
-  named_old_lem : (e : Epoch) (t : Tally) → named_epoch st e ≡ named.Old t → st.old ≡ Open t
+  named_old_lem : (e : Epoch) (t : Tally) → named_epoch st e ≡ Some (named.Old t) → st.old ≡ Some t
   unfolding named_epoch
   named_old_lem e t p = picked (eqb e.0 st.epoch.0) _ _ _ p (λ _ q. never cc) (λ _ q. go st.old refl q)
     where
-      go : (o : old.Old) → st.old ≡ o → named_old e st.epoch o ≡ named.Old t → st.old ≡ Open t
-      go Closed f q = never cc
-      go (Open u) f q = picked (eqb e.0 (st.epoch.0 - 1)) _ _ _ q (λ _ z. cc) (λ _ z. never cc)
+      go : (o : Option Tally) → st.old ≡ o → named_old e st.epoch o ≡ Some (named.Old t) → st.old ≡ Some t
+      go None f q = never cc
+      go (Some u) f q = picked (eqb e.0 (st.epoch.0 - 1)) _ _ _ q (λ _ z. cc) (λ _ z. never cc)
 
   module _ (i : ℕ) (e : Epoch) (t : Time) (k : Key) (x : Value) (a : Brought k x) (hi : i < count c) where
-    add_named_lem : slot_in c i ≡ sl.Free → held c k ≡ false → fits k x ≡ true → (z : Named) → named_epoch st e ≡ z → Keeps st c (add_named i e t k x st c z)
-    add_named_lem free none f named.NotOpen q = nay epoch_not_open
-    add_named_lem free none f named.Current q =
+    add_named_lem : slot_in c i ≡ sl.Free → held c k ≡ false → fits k x ≡ true → (z : Option Named) → named_epoch st e ≡ z → Keeps st c (add_named i e t k x st c z)
+    add_named_lem free none f None q = nay epoch_not_open
+    add_named_lem free none f (Some named.Current) q =
         by (in_time t st.clock)
         (λ _. by (leb count_limit st.tally.adds) (λ _. nay count_full)
         (λ l. stored (added_current st (tag_of st.set (add_message e t k x))) i deferred k x
         (record { well = added_current_well st w _ (leb-false count_limit st.tally.adds l); set = added_current_set st _ }) hi free none (brought_kept deferred k x (lit≤ tt) (lit≤ tt) a) f))
         (λ _. nay time_out_of_range)
-    add_named_lem free none f (named.Old u) q =
+    add_named_lem free none f (Some (named.Old u)) q =
         by (in_time t st.clock)
         (λ _. by (leb count_limit u.adds) (λ _. nay count_full)
         (λ l. stored (added_old st u (tag_of st.set (add_message e t k x))) i deferred k x
@@ -435,22 +432,22 @@ module _ (st : State) (c : List ℕ) (w : well_state st ≡ true) (s : WellSlots
 
   -- ---- 9 and 10
 
-  either : (t : Bool) {x y : done.Done} → (t ≡ true → Keeps st c (outcome x c)) → (t ≡ false → Keeps st c (outcome y c)) → Keeps st c (outcome (pick t x y) c)
+  either : (t : Bool) {x y : Done} → (t ≡ true → Keeps st c (outcome x c)) → (t ≡ false → Keeps st c (outcome y c)) → Keeps st c (outcome (pick t x y) c)
   either true p q = p refl
   either false p q = q refl
 
   same_cache : (σ : State) → Next st σ → Keeps st c (accepts σ c)
   same_cache σ e = record { state = e.well; set = e.set; slots = s; size = refl }
 
-  advance_old_lem : (o : old.Old) → Keeps st c (outcome (advance_old st o) c)
-  advance_old_lem (Open t) = nay wrong_moment
-  advance_old_lem Closed =
+  advance_old_lem : (o : Option Tally) → Keeps st c (outcome (advance_old st o) c)
+  advance_old_lem (Some t) = nay wrong_moment
+  advance_old_lem None =
       either (leb epoch_limit st.epoch.0) (λ _. nay epoch_full)
       (λ l. same_cache (advanced_state st) (record { well = advanced_well st w (leb-false epoch_limit st.epoch.0 l); set = advanced_set st }))
 
-  close_old_lem : (o : old.Old) → Keeps st c (outcome (close_old st o) c)
-  close_old_lem Closed = nay wrong_moment
-  close_old_lem (Open t) =
+  close_old_lem : (o : Option Tally) → Keeps st c (outcome (close_old st o) c)
+  close_old_lem None = nay wrong_moment
+  close_old_lem (Some t) =
       either (eqb t.adds t.evicts)
       (λ _. either (tag_eq t.addsum t.evictsum) (λ _. same_cache (closed_state st) (record { well = closed_well st w; set = closed_set st })) (λ _. nay sums_differ))
       (λ _. nay counts_differ)
@@ -531,9 +528,9 @@ module _ (log : List ℕ) (st : State) (c : List ℕ) (l : well_length c ≡ tru
       s = well_slots c (both_true (well_state st) (well_cache c) f).1 (omega (arith, (length_slots c l).0))
 
       go : (r : Reading) → read_entry log ≡ r → Sound st c (step_read st c r)
-      go reading.Short e = taken 0 st c (refuses short st c) (nay st c w s bc short)
-      go (reading.Malformed n) e = taken n st c (refuses malformed st c) (nay st c w s bc malformed)
-      go (reading.Good d n) e =
+      go (Err unread.Short) e = taken 0 st c (refuses short st c) (nay st c w s bc short)
+      go (Err (unread.Malformed n)) e = taken n st c (refuses malformed st c) (nay st c w s bc malformed)
+      go (Ok (d, n)) e =
           let t = entry_same log bl d n e in
           taken n st c (entry_step d st c) (entry_keeps st c w s bc d (brings d t.well t.fits))
 
@@ -543,6 +540,6 @@ unfolding step_well
 step_used log st c = go (read_entry log)
   where
     go : (r : Reading) → (step_read st c r).result.used ≡ reading_used r
-    go reading.Short = refl
-    go (reading.Malformed n) = refl
-    go (reading.Good d n) = refl
+    go (Err unread.Short) = refl
+    go (Err (unread.Malformed n)) = refl
+    go (Ok (d, n)) = refl

@@ -1,25 +1,59 @@
-// One step: 28, 1, 3, 2, and then what the entry comes to.
-// Promises upward: verdict, next state, bytes used and every byte of the cache are the rules', for any log, any state and any lent cache; and
-// for a run, which knows its state and cache to be well formed and has made the expanded key, the same step without deciding that again.
+//! One step: 28, 1, 3, 2, and then what the entry comes to.
+//! Promises upward: verdict, next state, bytes used and every byte of the cache are the rules', for any log, any state and any lent cache; and
+//! for a run, which knows its state and cache to be well formed and has made the expanded key, the same step without deciding that again.
 #![tactic(auto)]
 
-ghost use Rattle.std.specs.Prelude.{◌≡◌, true, ◌≤◌};
-ghost use Rattle.aes.specs.Aes.{expansion};
-ghost use Rattle.hash.specs.Hashes.{set_bytes};
+ghost use Rattle.std.specs.Prelude.{◌≡◌, true, ◌≤◌, Err};
 ghost use Rattle.state.specs.States.{clock_limit, well_state};
-ghost use Rattle.rules.specs.Outcomes.{outcome};
-ghost use Rattle.rules.specs.Steps.{entry_step, stepped, used_by, step_well, step};
+ghost use Rattle.rules.specs.Outcomes.{outcome, done};
+ghost use Rattle.rules.specs.Steps.{entry_step, stepped, step_well, step};
+ghost use Rattle.step.specs.Progress.{progress};
+ghost use Rattle.state.specs.declared.State.{State};
 
-use aes::Expanded;
-use entry::{Entry, Reading};
-use rules::{Done, Stepped, gives};
-use state::State;
+use entry::{Entry, Unread};
+use state::{Keyed, State};
+use verdict::Refusal;
 
-// What an entry comes to; x is the set key expanded. Inner.
-fn apply(x: Expanded, e: Entry, st: State, cache: &mut [u8]) -> Done
-    requires { (x.bytes ≡ expansion (set_bytes st.set)) × (st.clock.0 ≤ clock_limit) }
-    ensures { outcome result cache.new ≡ entry_step e st cache.old }
+/// What a step gives: the next state, or why its entry is refused, which leaves the state as it was; and the bytes used.
+#[derive(Clone, Copy)]
+pub struct Progress {
+    pub next: Result<State, Refusal>,
+    pub used: usize,
+}
+
+impl Progress {
+    // Before any entry is read: no bytes are used.
+    fn refused(refusal: Refusal) -> Progress
+        ensures { result ≡ record { next = Err refusal; used = 0 } }
+    {
+        Progress {
+            next: Err(refusal),
+            used: 0,
+        }
+    }
+
+    /// The number that the step is told by.
+    pub fn verdict(&self) -> u32
+        ensures { (st : State) → result ≡ (progress self.now st).verdict }
+    {
+        verdict::told(&self.next)
+    }
+
+    /// The state after the step: the one before it, where the entry is refused.
+    pub fn state(&self, before: State) -> State
+        ensures { result ≡ (progress self.now before).state }
+    {
+        self.next.unwrap_or(before)
+    }
+}
+
+// What an entry comes to. Inner.
+#[tactic(auto, unfolding(rules::specs::Steps::entry_step))]
+fn apply(keyed: &Keyed, e: Entry, cache: &mut [u8]) -> Result<State, Refusal>
+    requires { keyed.now.state.clock.0 ≤ clock_limit }
+    ensures { outcome (done result keyed.now.state) cache.new ≡ entry_step e keyed.now.state cache.old }
 {
+    let st = keyed.state;
     match e {
         Entry::AddTree { s, p, key, value } => adds::add_tree(s, p, key, value, st, cache),
         Entry::AddDeferred {
@@ -28,54 +62,53 @@ fn apply(x: Expanded, e: Entry, st: State, cache: &mut [u8]) -> Done
             time,
             key,
             value,
-        } => deferred_adds::add_deferred(x, s, epoch, time, key, value, st, cache),
-        Entry::EvictTree { s, p } => evicts::evict_by(x, false, s, p, st, cache),
-        Entry::EvictDeferred { s } => deferred_evicts::evict_deferred(x, s, st, cache),
-        Entry::EvictTreeDeferred { s, p } => evicts::evict_by(x, true, s, p, st, cache),
-        Entry::Get { s, key, value } => gives(answers::get(s, key, value, cache), st),
-        Entry::Absent { p, key } => gives(answers::absent(p, key, cache), st),
+        } => deferred_adds::add_deferred(keyed, s, epoch, time, key, value, cache),
+        Entry::EvictTree { s, p } => evicts::evict_by(keyed, false, s, p, cache),
+        Entry::EvictDeferred { s } => deferred_evicts::evict_deferred(keyed, s, cache),
+        Entry::EvictTreeDeferred { s, p } => evicts::evict_by(keyed, true, s, p, cache),
+        Entry::Get { s, key, value } => {
+            answers::get(s, key, value, cache)?;
+            Ok(st)
+        }
+        Entry::Absent { p, key } => {
+            answers::absent(p, key, cache)?;
+            Ok(st)
+        }
         Entry::Put { s, key, value } => answers::put(s, key, value, st, cache),
         Entry::Advance => epochs::advance(st),
         Entry::Close => epochs::close(st),
     }
 }
 
-fn used_by(used: usize, d: Done) -> Stepped
-    ensures { result ≡ used_by used d }
-{
-    let s = d.state;
-    Stepped {
-        verdict: d.verdict,
-        state: s,
-        used,
-    }
-}
-
-// A step on a state and a cache that are well formed, with the set key expanded: 3, 2, and then the entry. Inner.
-pub fn step_well(x: Expanded, log: &[u8], st: State, cache: &mut [u8]) -> Stepped
-    requires { (well_state st ≡ true) × (x.bytes ≡ expansion (set_bytes st.set)) }
-    ensures { stepped result cache.new ≡ step_well log.now st cache.old }
+/// A step on a state and a cache that are well formed: 3, 2, and then the entry. Inner.
+#[tactic(auto, unfolding(rules::specs::Steps::step_well), using(state::proofs::Laws::well_clock))]
+pub fn step_well(keyed: &Keyed, log: &[u8], cache: &mut [u8]) -> Progress
+    requires { well_state keyed.now.state ≡ true }
+    ensures { stepped (progress result keyed.now.state) cache.new ≡ step_well log.now keyed.now.state cache.old }
 {
     match entry::read(log) {
-        Reading::Short => used_by(0, gives(verdict::SHORT, st)),
-        Reading::Malformed { used } => used_by(used, gives(verdict::MALFORMED, st)),
-        Reading::Good { entry, used } => used_by(used, apply(x, entry, st, cache)),
+        Err(Unread::Short) => Progress::refused(Refusal::Short),
+        Err(Unread::Malformed { used }) => Progress {
+            next: Err(Refusal::Malformed),
+            used,
+        },
+        Ok((entry, used)) => Progress {
+            next: apply(keyed, entry, cache),
+            used,
+        },
     }
 }
 
-// One step on any log, state and cache.
-pub fn step(log: &[u8], st: State, cache: &mut [u8]) -> Stepped
-    ensures { stepped result cache.new ≡ step log.now st cache.old }
+/// One step on any log, state and cache.
+#[tactic(auto, unfolding(rules::specs::Steps::step))]
+pub fn step(log: &[u8], st: State, cache: &mut [u8]) -> Progress
+    ensures { stepped (progress result st) cache.new ≡ step log.now st cache.old }
 {
-    if cache::well_length(cache) {
-        if st.well() {
-            if cache::well_cache(cache) {
-                let set = st.set;
-                return step_well(hash::expanded(set), log, st, cache);
-            }
-            return used_by(0, gives(verdict::NOT_WELL, st));
-        }
-        return used_by(0, gives(verdict::NOT_WELL, st));
+    if !cache::well_length(cache) {
+        return Progress::refused(Refusal::WrongCache);
     }
-    used_by(0, gives(verdict::WRONG_CACHE, st))
+    if !(st.well() && cache::well_cache(cache)) {
+        return Progress::refused(Refusal::NotWell);
+    }
+    step_well(&Keyed::new(st), log, cache)
 }

@@ -1,10 +1,9 @@
 -- Term keys and fingerprints (document 01, "Keys, values, messages").
-use Rattle.std.specs.Prelude.{ℕ, List, [], ◌∷◌, ◌++◌, Bool, true, false, leb, ltb, eqb, length, replicate}
+use Rattle.std.specs.Prelude.{ℕ, List, [], ◌∷◌, ◌++◌, Bool, true, false, leb, ltb, eqb, length, replicate, Result, Ok, Err}
 use Rattle.words.specs.Choice.{pick, both}
-use Rattle.verdict.specs.Verdicts.{accepted, bad_term, too_long, longest}
-use Rattle.sha256.specs.Sha256.{sha256}
-use Rattle.sha256.specs.declared.Answer.{Answer}
-use Rattle.term.specs.declared.Match.{Match}
+use Rattle.verdict.specs.Verdicts.{accepted, bad_term, too_long, longest, number}
+use Rattle.verdict.specs.declared.Refusal.{Refusal}
+use Rattle.sha256.specs.Sha256.{Answer, sha256}
 
 -- each byte is one of a to z
 unfoldable pub letters : List ℕ → Bool
@@ -34,6 +33,16 @@ same_bytes [] [] = true
 same_bytes [] (y ∷ ys) = false
 same_bytes (x ∷ xs) [] = false
 same_bytes (x ∷ xs) (y ∷ ys) = both (eqb x y) (same_bytes xs ys)
+
+-- the answer of a fingerprint's test: 0 and yes or no, or the number of a refusal and no
+pub record Match : Type 0 where
+  pub verdict : ℕ
+  pub yes : Bool
+
+-- what its outcome is told by
+abbrev pub match_answer : Result Bool Refusal → Match
+match_answer (Ok b) = record { verdict = accepted; yes = b }
+match_answer (Err r) = record { verdict = number r; yes = false }
 
 -- whether a sealed entry has a given fingerprint; of one that is too long, no, with 30
 unfoldable pub matches : List ℕ → List ℕ → Match

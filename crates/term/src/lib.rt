@@ -1,61 +1,38 @@
-// Term keys, and whether a sealed entry has a given fingerprint. All calls are public and total.
-// Promises upward: the key is the SHA-256 of what `hashed` says, and the answer yes is the equality of digest and fingerprint.
+//! Term keys, and whether a sealed entry has a given fingerprint. All calls are public and total.
+//! Promises upward: the key is the SHA-256 of what `hashed` says, and the answer yes is the equality of digest and fingerprint.
 #![tactic(auto)]
 
-ghost use Rattle.std.specs.Prelude.{◌≡◌, ◌+◌, ◌≤◌, length, leb};
-ghost use Rattle.words.specs.Choice.{both};
-ghost use Rattle.sha256.specs.Sha256.{sha256};
-ghost use Rattle.term.specs.Terms.{letters, well_code, well_term, hashed, term_key, same_bytes, matches};
+ghost use Rattle.std.specs.Prelude.{◌≡◌, ◌+◌, ◌≤◌, length};
+ghost use Rattle.sha256.specs.Sha256.{sha256, answer};
+ghost use Rattle.term.specs.Terms.{letters, well_code, well_term, hashed, term_key, matches, match_answer};
 
-use sha256::Answer;
-use words::and;
+use verdict::Refusal;
 
 // The longest code and term, and what is hashed of them.
 const CODE_BYTES: usize = 8;
 
 const TERM_BYTES: usize = 255;
 
-const HASHED_BYTES: usize = 263;
-
-// What the fingerprint test answers: 0 and yes or no, or 30 and no.
-#[derive(Clone, Copy)]
-pub struct Match {
-    pub verdict: u32,
-    pub yes: bool,
-}
-
-fn letter(x: u8) -> bool
-    ensures { result ≡ both (leb 97 x) (leb x 122) }
-{
-    and(b'a' <= x, x <= b'z')
-}
+const HASHED_BYTES: usize = CODE_BYTES + TERM_BYTES;
 
 fn letters(s: &[u8]) -> bool
     ensures { result ≡ letters s.now }
 {
-    let mut i = 0;
-    while i < s.len() {
-        if letter(s[i]) {
-            i += 1;
-        } else {
-            return false;
-        }
-    }
-    true
+    s.iter().all(|x| x.is_ascii_lowercase())
 }
 
+#[tactic(auto, unfolding(crate::specs::Terms::well_code))]
 fn well_code(c: &[u8]) -> bool
     ensures { result ≡ well_code c.now }
 {
-    let n = c.len();
-    and(and(2 <= n, n <= CODE_BYTES), letters(c))
+    (2..=CODE_BYTES).contains(&c.len()) && letters(c)
 }
 
+#[tactic(auto, unfolding(crate::specs::Terms::well_term))]
 fn well_term(t: &[u8]) -> bool
     ensures { result ≡ well_term t.now }
 {
-    let n = t.len();
-    and(1 <= n, n <= TERM_BYTES)
+    (1..=TERM_BYTES).contains(&t.len())
 }
 
 // Inner.
@@ -69,52 +46,25 @@ fn key_of(code: &[u8], term: &[u8]) -> [u8; 32]
     sha256::hash_bytes(sha256::hash_of(&b[..e]))
 }
 
-// The term key of a language code and a term; 29 where one of them is bad.
-pub fn term_key(code: &[u8], term: &[u8]) -> Answer
-    ensures { result ≡ term_key code.now term.now }
+/// The term key of a language code and a term.
+#[tactic(auto, using(crate::proofs::Laws::good_fits), unfolding(crate::specs::Terms::term_key))]
+pub fn term_key(code: &[u8], term: &[u8]) -> Result<[u8; 32], Refusal>
+    ensures { answer result ≡ term_key code.now term.now }
 {
-    if and(well_code(code), well_term(term)) {
-        let d = key_of(code, term);
-        return Answer {
-            verdict: verdict::ACCEPTED,
-            bytes: d,
-        };
-    }
-    Answer {
-        verdict: verdict::BAD_TERM,
-        bytes: [0; 32],
+    if well_code(code) && well_term(term) {
+        Ok(key_of(code, term))
+    } else {
+        Err(Refusal::BadTerm)
     }
 }
 
-fn same_bytes(a: &[u8], b: &[u8]) -> bool
-    ensures { result ≡ same_bytes a.now b.now }
-{
-    if a.len() != b.len() {
-        return false;
-    }
-    let mut i = 0;
-    while i < a.len() {
-        if a[i] != b[i] {
-            return false;
-        }
-        i += 1;
-    }
-    true
-}
-
-// Whether a sealed entry has a fingerprint; 30 where it is too long.
-pub fn has_fingerprint(sealed: &[u8], fingerprint: &[u8; 32]) -> Match
-    ensures { result ≡ matches sealed.now fingerprint.now }
+/// Whether a sealed entry has a fingerprint.
+#[tactic(auto, using(crate::proofs::Laws::same_is), unfolding(crate::specs::Terms::matches, sha256::specs::Sha256::sha256))]
+pub fn has_fingerprint(sealed: &[u8], fingerprint: &[u8; 32]) -> Result<bool, Refusal>
+    ensures { match_answer result ≡ matches sealed.now fingerprint.now }
 {
     if verdict::LONGEST < sealed.len() {
-        return Match {
-            verdict: verdict::TOO_LONG,
-            yes: false,
-        };
+        return Err(Refusal::TooLong);
     }
-    let d = sha256::hash_bytes(sha256::hash_of(sealed));
-    Match {
-        verdict: verdict::ACCEPTED,
-        yes: same_bytes(&d, fingerprint),
-    }
+    Ok(sha256::hash_bytes(sha256::hash_of(sealed)) == *fingerprint)
 }

@@ -1,6 +1,6 @@
-// The listing's lines, written as text into a lent buffer.
-// Promises upward: exactly the bytes of the definition, and where they end.
-// Each writer asks that its text fits: all are inner, for the crates above.
+//! The listing's lines, written as text into a lent buffer.
+//! Promises upward: exactly the bytes of the definition, and where they end.
+//! Each writer asks that its text fits: all are inner, for the crates above.
 #![tactic(auto)]
 
 ghost use Rattle.std.specs.Prelude.{◌≡◌, ◌+◌, ◌≤◌, ◌<◌, length, drop};
@@ -29,23 +29,21 @@ fn digit(x: u64) -> u8
 }
 
 // The decimal digits of n, at the end of d; they start at the place returned. Inner.
-fn spell(n: u64, d: &mut [u8]) -> usize
-    requires { length d.old ≡ 20 }
+fn spell(n: u64, d: &mut [u8; DIGITS]) -> usize
     ensures { (result ≤ 20) × (drop result d.new ≡ decimal n) }
 {
-    let mut i = DIGITS;
     let mut rest = n;
-    while BASE <= rest {
-        i -= 1;
+    for i in (0..DIGITS).rev() {
         d[i] = digit(rest % BASE);
         rest /= BASE;
+        if rest == 0 {
+            return i;
+        }
     }
-    i -= 1;
-    d[i] = digit(rest);
-    i
+    unreachable!()
 }
 
-// The decimal digits of n, at at; where they end. Inner.
+/// The decimal digits of n, at at; where they end. Inner.
 pub fn put_decimal(out: &mut [u8], at: usize, n: u64) -> usize
     requires { at + length (decimal n) ≤ length out.old }
     ensures { (result ≡ at + length (decimal n)) × (out.new ≡ splice out.old at (decimal n)) }
@@ -55,7 +53,7 @@ pub fn put_decimal(out: &mut [u8], at: usize, n: u64) -> usize
     put_bytes(out, at, &d[s..])
 }
 
-// The decimal digits of n and the byte that ends them, at at; where they end. Inner.
+/// The decimal digits of n and the byte that ends them, at at; where they end. Inner.
 pub fn put_field(out: &mut [u8], at: usize, n: u64, end: u8) -> usize
     requires { at + length (field n end) ≤ length out.old }
     ensures { (result ≡ at + length (field n end)) × (out.new ≡ splice out.old at (field n end)) }
@@ -65,7 +63,7 @@ pub fn put_field(out: &mut [u8], at: usize, n: u64, end: u8) -> usize
     next + 1
 }
 
-// The line of an entry met, at at: its number, tag byte, verdict, current epoch after it; where it ends. Inner.
+/// The line of an entry met, at at: its number, tag byte, verdict, current epoch after it; where it ends. Inner.
 pub fn put_line(out: &mut [u8], at: usize, n: u64, tag: u8, verdict: u32, epoch: u64) -> usize
     requires { at + length (line_text n tag verdict epoch) ≤ length out.old }
     ensures { (result ≡ at + length (line_text n tag verdict epoch)) × (out.new ≡ splice out.old at (line_text n tag verdict epoch)) }
@@ -76,7 +74,7 @@ pub fn put_line(out: &mut [u8], at: usize, n: u64, tag: u8, verdict: u32, epoch:
     put_field(out, c, epoch, LINE_FEED)
 }
 
-// The first line, at at; where it ends. Inner.
+/// The first line, at at; where it ends. Inner.
 pub fn put_slots(out: &mut [u8], at: usize) -> usize
     requires { at + length slots_text ≤ length out.old }
     ensures { (result ≡ at + length slots_text) × (out.new ≡ splice out.old at slots_text) }
@@ -84,7 +82,7 @@ pub fn put_slots(out: &mut [u8], at: usize) -> usize
     put_bytes(out, at, b"slots 4\n")
 }
 
-// The last line, at at: the settled epoch and the bytes used; where it ends. Inner.
+/// The last line, at at: the settled epoch and the bytes used; where it ends. Inner.
 pub fn put_end(out: &mut [u8], at: usize, settled: u64, used: u64) -> usize
     requires { at + length (end_text settled used) ≤ length out.old }
     ensures { (result ≡ at + length (end_text settled used)) × (out.new ≡ splice out.old at (end_text settled used)) }

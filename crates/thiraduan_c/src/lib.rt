@@ -1,6 +1,6 @@
-// The static library: the public calls of crate thiraduan under their names for C, with the same promises; what each does stands there.
-// A slice passes as a pointer and a length, a lent array as a pointer; the verdict is the result.
-// Promises upward: what the calls below promise, every lent byte determined; a refused step leaves state and cache as they were, byte for byte.
+//! The static library: the public calls of crate thiraduan under their names for C, with the same promises; what each does stands there.
+//! A slice passes as a pointer and a length, a lent array as a pointer; the verdict is the result.
+//! Promises upward: what the calls below promise, every lent byte determined; a refused step leaves state and cache as they were, byte for byte.
 #![tactic(auto)]
 
 ghost use Rattle.std.specs.Prelude.{◌≡◌};

@@ -1,5 +1,6 @@
 -- Document 01, "Traps in this trade": histories, computed from bytes to bytes, that show why demand 3 says neither more nor less. Digests and tags
 -- stay symbols.
+use Rattle.std.specs.Prelude.{Some}
 use Prim.Native.Nat.{ℕ}
 use mathlib.Core.Path.{◌≡◌, refl, ◌∙◌, ap}
 use mathlib.Core.Bool.{true}
@@ -24,7 +25,6 @@ use Rattle.hash.specs.Hashes.{set_key, tag_of}
 use Rattle.slot.specs.Slots.{slot_bytes, all_zero, slot_at}
 use Rattle.cache.specs.Caches.{well_length, held_in, held, well_record, well_at, well_from, well_cache, opened_cache}
 use Rattle.state.specs.States.{well_state, added_current, added_old, evicted_state, evict_message, evicted, advanced_state, closed_state, fresh_state, open_def}
-use Rattle.state.specs.declared.Old.TheVariants.{Open}
 use Rattle.rules.specs.Outcomes.{gives}
 use Rattle.rules.specs.Adds.{linked, add_link, add_node, add_under, add_tree, named_epoch, add_into, add_deferred, add_message}
 use Rattle.rules.specs.Evicts.{unlinked, evict_link, evict_node, evict_under, evict_by, evict_deferred}
@@ -80,7 +80,7 @@ unfolding open_def number_at bytes_of zeros splice clean well_key key_bytes raw_
 three_verdicts = refl
 
 -- six adds and four evicts
-pub three_tally : (run begin three_times).state.old ≡ Open (record {
+pub three_tally : (run begin three_times).state.old ≡ Some (record {
   adds = 6;
   evicts = 4;
   addsum = tag_xor (tag_xor (tag_xor (tag_xor (tag_xor (tag_xor no_tag (tag 1)) (tag 1)) (tag 1)) (tag 2)) (tag 3)) (tag 4);
@@ -121,7 +121,7 @@ pub other_epoch : (run begin other_record).state.epoch.0 ≡ 2
 unfolding open_def number_at bytes_of zeros splice clean well_key key_bytes raw_key key_at data_at data_bytes key_eq same_top above bit_at toward digest_at digest_bytes digest_eq link_bytes side_bytes fingerprint_bytes node_bytes value_bytes link_at side_at node_at fingerprint_at value_at fits is_first value_eq add_tree_at add_deferred_at pair_of_slots evict_deferred_at record_at absent_at empty_at entry_of head_of read_entry entry_tag entry_body entry_bytes set_key slot_bytes all_zero slot_at well_length held_in held well_record well_at well_from well_cache opened_cache well_state added_current added_old evicted_state evict_message evicted advanced_state closed_state fresh_state linked add_link add_node add_under add_tree named_epoch add_into add_deferred unlinked evict_link evict_node evict_under evict_by evict_deferred get absent put advance close entry_step step_well step
 other_epoch = refl
 
-other_tally : (run begin other_record).state.old ≡ Open (record { adds = 1; evicts = 1; addsum = tag_xor no_tag (tag 1); evictsum = tag_xor no_tag (tag 1) })
+other_tally : (run begin other_record).state.old ≡ Some (record { adds = 1; evicts = 1; addsum = tag_xor no_tag (tag 1); evictsum = tag_xor no_tag (tag 1) })
 unfolding open_def number_at bytes_of zeros splice clean well_key key_bytes raw_key key_at data_at data_bytes key_eq same_top above bit_at toward digest_at digest_bytes digest_eq link_bytes side_bytes fingerprint_bytes node_bytes value_bytes link_at side_at node_at fingerprint_at value_at fits is_first value_eq add_tree_at add_deferred_at pair_of_slots evict_deferred_at record_at absent_at empty_at entry_of head_of read_entry entry_tag entry_body entry_bytes set_key slot_bytes all_zero slot_at well_length held_in held well_record well_at well_from well_cache opened_cache well_state added_current added_old evicted_state evict_message evicted advanced_state closed_state fresh_state linked add_link add_node add_under add_tree named_epoch add_into add_deferred unlinked evict_link evict_node evict_under evict_by evict_deferred get absent put advance close entry_step step_well step
 other_tally = refl
 

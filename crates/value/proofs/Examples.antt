@@ -4,6 +4,7 @@ use mathlib.Core.Path.{◌≡◌, refl}
 use mathlib.Core.List.{List, [], ◌∷◌, ◌++◌}
 use mathlib.Core.Bool.{Bool, true, false}
 use lib.ListN.{length, replicate}
+use Rattle.std.specs.Prelude.{Some, None}
 use Rattle.words.specs.Numbers.{number_at, bytes_of}
 use Rattle.key.specs.Keys.{key_at, raw_key, well_key, clean, key_bytes}
 use Rattle.key.specs.declared.Key.{Key}
@@ -13,7 +14,6 @@ use Rattle.value.specs.declared.Side.{Side}
 use Rattle.value.specs.declared.Side.TheVariants.{Empty, Link}
 use Rattle.value.specs.declared.Value.{Value}
 use Rattle.value.specs.declared.Value.TheVariants as v
-use Rattle.value.specs.declared.ValueRead.TheVariants as vr
 
 -- the key of the one bit 1, a digest, and the link of the two
 bit : Key
@@ -57,18 +57,18 @@ one_link_written : value_bytes (node (link true) Empty) ≡ written 1 128 1
 unfolding value_bytes node_bytes side_bytes link_bytes key_bytes digest_bytes bytes_of bit digest
 one_link_written = refl
 
-one_link_read : value_at (written 1 128 1) 0 ≡ vr.Good (node (link true) Empty) 70
+one_link_read : value_at (written 1 128 1) 0 ≡ Some (node (link true) Empty, 70)
 unfolding value_at node_at side_at link_at key_at raw_key well_key clean digest_at number_at bit digest
 one_link_read = refl
 
-mark_2_refused : value_at (written 1 128 2) 0 ≡ vr.Bad
+mark_2_refused : value_at (written 1 128 2) 0 ≡ None
 unfolding value_at node_at side_at link_at key_at raw_key well_key clean digest_at number_at
 mark_2_refused = refl
 
-root_link_refused : value_at (written 0 0 0) 0 ≡ vr.Bad
+root_link_refused : value_at (written 0 0 0) 0 ≡ None
 unfolding value_at node_at side_at link_at key_at raw_key well_key clean digest_at number_at
 root_link_refused = refl
 
-bit_past_the_length_refused : value_at (written 1 192 0) 0 ≡ vr.Bad
+bit_past_the_length_refused : value_at (written 1 192 0) 0 ≡ None
 unfolding value_at node_at side_at link_at key_at raw_key well_key clean digest_at number_at
 bit_past_the_length_refused = refl

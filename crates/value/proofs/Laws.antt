@@ -1,10 +1,11 @@
 -- How long the bytes of values are. Assumes nothing.
-use Prim.Native.Nat.{◌+◌, ◌≤◌}
-use mathlib.Core.Path.{◌≡◌}
+use Prim.Native.Nat.{ℕ, ◌+◌, ◌≤◌}
+use mathlib.Core.Path.{◌≡◌, ap}
 use mathlib.Core.Bool.{Bool}
 use native.Mathlib.Omega.{arith}
 use lib.Dec.{lit≤}
 use lib.ListN.{length, length-append}
+use Rattle.std.specs.Prelude.{Option, Some}
 use Rattle.words.proofs.Laws.{four_length}
 use Rattle.key.proofs.Laws.{key_length}
 use Rattle.key.specs.declared.Key.{Key}
@@ -14,6 +15,12 @@ use Rattle.value.specs.declared.Side.{Side}
 use Rattle.value.specs.declared.Side.TheVariants.{Empty, Link}
 use Rattle.value.specs.declared.Value.{Value}
 use Rattle.value.specs.declared.Value.TheVariants as v
+
+-- what is read the same is the same, and took as many bytes
+pub read_alike : {A : Type 0} (x y : A) (n m : ℕ) → ◌≡◌ {A = Option (A × ℕ)} (Some (x, n)) (Some (y, m)) → (x ≡ y) × (n ≡ m)
+read_alike {A} x y n m e =
+    let p : ◌≡◌ {A = A × ℕ} (x, n) (y, m) = cc in
+    (ap (λ (r : A × ℕ). r.0) p, ap (λ (r : A × ℕ). r.1) p)
 
 pub digest_length : (d : Digest) → length (digest_bytes d) ≡ 32
 unfolding digest_bytes

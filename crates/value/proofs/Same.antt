@@ -7,22 +7,19 @@ use native.Mathlib.Omega.{arith}
 use lib.ListN.{get_or, length}
 use lib.Dec.{leb, ltb, eqb}
 use borrow.Author.Tests.{lt-ltb, leb-true, leb-false, ltb-false, eqb-true, eqb-false}
+use Rattle.std.specs.Prelude.{Option, Some, None}
 use Rattle.words.specs.Numbers.{Bytes}
 use Rattle.words.specs.Splices.{part}
 use Rattle.words.proofs.Laws.{four_back, number_lt, part_one, part_step, picked, true_both, never}
 use Rattle.key.specs.Keys.{key_at, key_bytes, well_key}
 use Rattle.key.specs.declared.Key.{Key}
-use Rattle.key.specs.declared.KeyRead.{KeyRead}
-use Rattle.key.specs.declared.KeyRead.TheVariants as kr
 use Rattle.key.proofs.Laws.{key_same, key_well, key_fits}
 use Rattle.value.specs.Values.{digest_at, digest_bytes, mark_byte, link_of, link_at, link_bytes, side_at, side_bytes, node_end, node_then, node_at, node_bytes, fingerprint_at, fingerprint_bytes, value_at, value_bytes, well_side, well_value, DigestFits, SideFits, ValueFits}
+use Rattle.value.proofs.Laws.{read_alike}
 use Rattle.value.specs.declared.Side.{Side}
 use Rattle.value.specs.declared.Side.TheVariants.{Empty, Link}
-use Rattle.value.specs.declared.SideRead.{SideRead}
-use Rattle.value.specs.declared.SideRead.TheVariants as sr
 use Rattle.value.specs.declared.Value.{Value}
 use Rattle.value.specs.declared.Value.TheVariants as v
-use Rattle.value.specs.declared.ValueRead.TheVariants as vr
 
 -- a side stands at a place, in n bytes
 pub record SideThere (s : List ℕ) (at : ℕ) (x : Side) (n : ℕ) : Type 0 where
@@ -55,7 +52,7 @@ module _ (s : List ℕ) (at : ℕ) (b : Bytes s) where
   tag_same t h e = sym (part_one s at h ∙ rw e)
 
 module _ (s : List ℕ) (at : ℕ) (b : Bytes s) where
-  link_there : (k : Key) → key_at s (at + 1) ≡ kr.Good k → (k.len ≡ 0 → ⊥) → get_or s (at + 67) 0 ≤ 1 → at + 68 ≤ length s → get_or s at 0 ≡ 1
+  link_there : (k : Key) → key_at s (at + 1) ≡ Some k → (k.len ≡ 0 → ⊥) → get_or s (at + 67) 0 ≤ 1 → at + 68 ≤ length s → get_or s at 0 ≡ 1
       → SideThere s at (Link k (digest_at s (at + 35)) (eqb (get_or s (at + 67) 0) 1)) 68
   unfolding side_bytes link_bytes well_side
   link_there k e z m h g =
@@ -73,21 +70,21 @@ module _ (s : List ℕ) (at : ℕ) (b : Bytes s) where
         within = h;
       }
 
-  side_moved : (x y : Side) (n m : ℕ) → SideThere s at x n → sr.Good x n ≡ sr.Good y m → SideThere s at y m
-  side_moved x y n m t e = let p : x ≡ y = cc in let q : n ≡ m = cc in rw p at (rw q at t)
+  side_moved : (x y : Side) (n m : ℕ) → SideThere s at x n → ◌≡◌ {A = Option (Side × ℕ)} (Some (x, n)) (Some (y, m)) → SideThere s at y m
+  side_moved x y n m t e = let p = read_alike x y n m e in rw p.0 at (rw p.1 at t)
 
-  link_same : (x : Side) (n : ℕ) → at + 68 ≤ length s → get_or s at 0 ≡ 1 → link_at s at ≡ sr.Good x n → SideThere s at x n
+  link_same : (x : Side) (n : ℕ) → at + 68 ≤ length s → get_or s at 0 ≡ 1 → link_at s at ≡ Some (x, n) → SideThere s at x n
   unfolding link_at
   link_same x n h g e = go (key_at s (at + 1)) refl e
     where
-      go : (r : KeyRead) → key_at s (at + 1) ≡ r → link_of r (digest_at s (at + 35)) (get_or s (at + 67) 0) ≡ sr.Good x n → SideThere s at x n
-      go kr.Bad k q = never cc
-      go (kr.Good k) f q =
+      go : (r : Option Key) → key_at s (at + 1) ≡ r → link_of r (digest_at s (at + 35)) (get_or s (at + 67) 0) ≡ Some (x, n) → SideThere s at x n
+      go None k q = never cc
+      go (Some k) f q =
           picked (eqb k.len 0) _ _ _ q (λ _ u. never cc) λ z u.
           picked (ltb 1 (get_or s (at + 67) 0)) _ _ _ u (λ _ w. never cc) λ m w.
           side_moved _ x _ n (link_there k f (eqb-false _ _ z) (ltb-false _ _ m) h g) w
 
-  pub side_same : (x : Side) (n : ℕ) → side_at s at ≡ sr.Good x n → SideThere s at x n
+  pub side_same : (x : Side) (n : ℕ) → side_at s at ≡ Some (x, n) → SideThere s at x n
   unfolding side_at side_bytes well_side
   side_same x n e =
       picked (leb (length s) at) _ _ _ e (λ _ q. never cc) λ a q.
@@ -99,10 +96,10 @@ module _ (s : List ℕ) (at : ℕ) (b : Bytes s) where
       (λ _ w. never cc)
 
 module _ (s : List ℕ) (at : ℕ) (b : Bytes s) where
-  value_moved : (x y : Value) (n m : ℕ) → ValueThere s at x n → vr.Good x n ≡ vr.Good y m → ValueThere s at y m
-  value_moved x y n m t e = let p : x ≡ y = cc in let q : n ≡ m = cc in rw p at (rw q at t)
+  value_moved : (x y : Value) (n m : ℕ) → ValueThere s at x n → ◌≡◌ {A = Option (Value × ℕ)} (Some (x, n)) (Some (y, m)) → ValueThere s at y m
+  value_moved x y n m t e = let p = read_alike x y n m e in rw p.0 at (rw p.1 at t)
 
-  fingerprint_same : (x : Value) (n : ℕ) → get_or s at 0 ≡ 1 → fingerprint_at s at ≡ vr.Good x n → ValueThere s at x n
+  fingerprint_same : (x : Value) (n : ℕ) → get_or s at 0 ≡ 1 → fingerprint_at s at ≡ Some (x, n) → ValueThere s at x n
   unfolding fingerprint_at value_bytes fingerprint_bytes well_value
   fingerprint_same x n g e =
       picked (leb 33 (length s - at)) _ _ _ e
@@ -131,19 +128,19 @@ module _ (s : List ℕ) (at : ℕ) (b : Bytes s) where
         within = omega (arith, y.within);
       }
 
-  node_same : (x : Value) (n : ℕ) → at < length s → get_or s at 0 ≡ 2 → node_at s at ≡ vr.Good x n → ValueThere s at x n
+  node_same : (x : Value) (n : ℕ) → at < length s → get_or s at 0 ≡ 2 → node_at s at ≡ Some (x, n) → ValueThere s at x n
   unfolding node_at
   node_same x n h g e = left (side_at s (at + 1)) refl e
     where
-      right : (l : Side) (m : ℕ) → SideThere s (at + 1) l m → (r : SideRead) → side_at s (at + 1 + m) ≡ r → node_end l m r ≡ vr.Good x n → ValueThere s at x n
-      right l m t sr.Bad q u = never cc
-      right l m t (sr.Good r j) q u = value_moved _ x _ n (node_there l r m j h g t (side_same s (at + 1 + m) b r j q)) u
+      right : (l : Side) (m : ℕ) → SideThere s (at + 1) l m → (r : Option (Side × ℕ)) → side_at s (at + 1 + m) ≡ r → node_end l m r ≡ Some (x, n) → ValueThere s at x n
+      right l m t None q u = never cc
+      right l m t (Some (r, j)) q u = value_moved _ x _ n (node_there l r m j h g t (side_same s (at + 1 + m) b r j q)) u
 
-      left : (l : SideRead) → side_at s (at + 1) ≡ l → node_then s at l ≡ vr.Good x n → ValueThere s at x n
-      left sr.Bad q u = never cc
-      left (sr.Good l m) q u = right l m (side_same s (at + 1) b l m q) (side_at s (at + 1 + m)) refl u
+      left : (l : Option (Side × ℕ)) → side_at s (at + 1) ≡ l → node_then s at l ≡ Some (x, n) → ValueThere s at x n
+      left None q u = never cc
+      left (Some (l, m)) q u = right l m (side_same s (at + 1) b l m q) (side_at s (at + 1 + m)) refl u
 
-  pub value_same : (x : Value) (n : ℕ) → value_at s at ≡ vr.Good x n → ValueThere s at x n
+  pub value_same : (x : Value) (n : ℕ) → value_at s at ≡ Some (x, n) → ValueThere s at x n
   unfolding value_at value_bytes well_value
   value_same x n e =
       picked (leb (length s) at) _ _ _ e (λ _ q. never cc) λ a q.

@@ -1,23 +1,24 @@
 -- Values as bytes, what is read as one, and the tests on values (document 01, "Keys, values, messages").
-use Rattle.std.specs.Prelude.{ℕ, ◌+◌, ◌-◌, ◌^◌, ◌<◌, List, [], ◌∷◌, ◌++◌, Bool, true, false, length, get_or, ltb, leb, eqb}
+use Rattle.std.specs.Prelude.{ℕ, ◌+◌, ◌-◌, ◌^◌, ◌<◌, List, [], ◌∷◌, ◌++◌, Bool, true, false, Option, Some, None, length, get_or, ltb, leb, eqb}
 use Rattle.words.specs.Choice.{pick, both, no}
 use Rattle.words.specs.Numbers.{number_at, four_words}
+use Rattle.words.specs.declared.Four.{Four}
 use Rattle.key.specs.Keys.{key_at, key_bytes, well_key, key_eq, is_data, KeyFits}
 use Rattle.key.specs.declared.Key.{Key}
-use Rattle.key.specs.declared.KeyRead.{KeyRead}
-use Rattle.key.specs.declared.KeyRead.TheVariants as kr
 use Rattle.value.specs.declared.Digest.{Digest}
 use Rattle.value.specs.declared.Side.{Side}
 use Rattle.value.specs.declared.Side.TheVariants.{Empty, Link}
 use Rattle.value.specs.declared.Node.{Node}
 use Rattle.value.specs.declared.Value.{Value}
 use Rattle.value.specs.declared.Value.TheVariants as v
-use Rattle.value.specs.declared.SideRead.{SideRead}
-use Rattle.value.specs.declared.SideRead.TheVariants as sr
-use Rattle.value.specs.declared.ValueRead.{ValueRead}
-use Rattle.value.specs.declared.ValueRead.TheVariants as vr
 
 -- ---- digests: 32 bytes, four words
+
+abbrev pub digest_of_four : Four → Digest
+digest_of_four x = record { d0 = x.first; d1 = x.second; d2 = x.third; d3 = x.fourth }
+
+abbrev pub four_of_digest : Digest → Four
+four_of_digest d = record { first = d.d0; second = d.d1; third = d.d2; fourth = d.d3 }
 
 unfoldable pub digest_at : List ℕ → ℕ → Digest
 digest_at s at =
@@ -60,48 +61,48 @@ value_bytes (v.Node n) = node_bytes n.left n.right
 -- ---- read: what stands at a place of s, and how many bytes it takes
 
 -- a link's key has 1 to 256 bits, its mark is 0 or 1
-abbrev pub link_of : KeyRead → Digest → ℕ → SideRead
-link_of kr.Bad d m = sr.Bad
-link_of (kr.Good k) d m =
-    pick (eqb k.len 0) sr.Bad (pick (ltb 1 m) sr.Bad (sr.Good (Link k d (eqb m 1)) 68))
+abbrev pub link_of : Option Key → Digest → ℕ → Option (Side × ℕ)
+link_of None d m = None
+link_of (Some k) d m =
+    pick (eqb k.len 0) None (pick (ltb 1 m) None (Some (Link k d (eqb m 1), 68)))
 
-unfoldable pub link_at : List ℕ → ℕ → SideRead
+unfoldable pub link_at : List ℕ → ℕ → Option (Side × ℕ)
 link_at s at = link_of (key_at s (at + 1)) (digest_at s (at + 35)) (get_or s (at + 67) 0)
 
-unfoldable pub side_at : List ℕ → ℕ → SideRead
+unfoldable pub side_at : List ℕ → ℕ → Option (Side × ℕ)
 side_at s at =
-    pick (leb (length s) at) sr.Bad
-    (pick (eqb (get_or s at 0) 0) (sr.Good Empty 1)
-    (pick (eqb (get_or s at 0) 1) (pick (leb 68 (length s - at)) (link_at s at) sr.Bad) sr.Bad))
+    pick (leb (length s) at) None
+    (pick (eqb (get_or s at 0) 0) (Some (Empty, 1))
+    (pick (eqb (get_or s at 0) 1) (pick (leb 68 (length s - at)) (link_at s at) None) None))
 
-abbrev pub side_end : SideRead → ℕ
-side_end sr.Bad = 0
-side_end (sr.Good x n) = n
+abbrev pub side_end : Option (Side × ℕ) → ℕ
+side_end None = 0
+side_end (Some (x, n)) = n
 
-abbrev pub node_end : Side → ℕ → SideRead → ValueRead
-node_end l n sr.Bad = vr.Bad
-node_end l n (sr.Good r m) = vr.Good (v.Node (record { left = l; right = r })) (1 + n + m)
+abbrev pub node_end : Side → ℕ → Option (Side × ℕ) → Option (Value × ℕ)
+node_end l n None = None
+node_end l n (Some (r, m)) = Some (v.Node (record { left = l; right = r }), 1 + n + m)
 
-abbrev pub node_then : List ℕ → ℕ → SideRead → ValueRead
-node_then s at sr.Bad = vr.Bad
-node_then s at (sr.Good l n) = node_end l n (side_at s (at + 1 + n))
+abbrev pub node_then : List ℕ → ℕ → Option (Side × ℕ) → Option (Value × ℕ)
+node_then s at None = None
+node_then s at (Some (l, n)) = node_end l n (side_at s (at + 1 + n))
 
-unfoldable pub node_at : List ℕ → ℕ → ValueRead
+unfoldable pub node_at : List ℕ → ℕ → Option (Value × ℕ)
 node_at s at = node_then s at (side_at s (at + 1))
 
-unfoldable pub fingerprint_at : List ℕ → ℕ → ValueRead
-fingerprint_at s at = pick (leb 33 (length s - at)) (vr.Good (v.Fingerprint (digest_at s (at + 1))) 33) vr.Bad
+unfoldable pub fingerprint_at : List ℕ → ℕ → Option (Value × ℕ)
+fingerprint_at s at = pick (leb 33 (length s - at)) (Some (v.Fingerprint (digest_at s (at + 1)), 33)) None
 
-unfoldable pub value_at : List ℕ → ℕ → ValueRead
+unfoldable pub value_at : List ℕ → ℕ → Option (Value × ℕ)
 value_at s at =
-    pick (leb (length s) at) vr.Bad
-    (pick (eqb (get_or s at 0) 0) (vr.Good v.None 1)
+    pick (leb (length s) at) None
+    (pick (eqb (get_or s at 0) 0) (Some (v.None, 1))
     (pick (eqb (get_or s at 0) 1) (fingerprint_at s at)
-    (pick (eqb (get_or s at 0) 2) (node_at s at) vr.Bad)))
+    (pick (eqb (get_or s at 0) 2) (node_at s at) None)))
 
-abbrev pub value_end : ValueRead → ℕ
-value_end vr.Bad = 0
-value_end (vr.Good x n) = n
+abbrev pub value_end : Option (Value × ℕ) → ℕ
+value_end None = 0
+value_end (Some (x, n)) = n
 
 -- ---- a value in hand that is read back: every link's key is one, and not the root
 

@@ -1,5 +1,7 @@
 -- Document 01, "Verdict numbers": each number by name.
-use Rattle.std.specs.Prelude.{ℕ}
+use Rattle.std.specs.Prelude.{ℕ, ◌≡◌, Result, Ok, Err}
+use Rattle.verdict.specs.declared.Refusal.{Refusal}
+use Rattle.verdict.specs.declared.Refusal.TheVariants.{NotWell, Malformed, Short, NoSlot, SlotTaken, SlotEmpty, KeyHeld, WrongKind, OtherKey, NoAncestor, NoLink, OtherBranch, MarkedDeferred, DigestDiffers, NotFirst, WrongOrigin, RootSlot, EpochNotOpen, TimeOutOfRange, CountFull, EpochFull, WrongMoment, CountsDiffer, SumsDiffer, ValueDiffers, AbsenceNotShown, NoRoom, WrongCache, BadTerm, TooLong}
 
 -- accepted
 abbrev pub accepted : ℕ
@@ -128,3 +130,44 @@ too_long = 30
 -- the longest message that 30 does not refuse
 abbrev pub longest : ℕ
 longest = 65536
+
+-- the number of each refusal
+abbrev pub number : Refusal → ℕ
+number NotWell = not_well
+number Malformed = malformed
+number Short = short
+number NoSlot = no_slot
+number SlotTaken = slot_taken
+number SlotEmpty = slot_empty
+number KeyHeld = key_held
+number WrongKind = wrong_kind
+number OtherKey = other_key
+number NoAncestor = no_ancestor
+number NoLink = no_link
+number OtherBranch = other_branch
+number MarkedDeferred = marked_deferred
+number DigestDiffers = digest_differs
+number NotFirst = not_first
+number WrongOrigin = wrong_origin
+number RootSlot = root_slot
+number EpochNotOpen = epoch_not_open
+number TimeOutOfRange = time_out_of_range
+number CountFull = count_full
+number EpochFull = epoch_full
+number WrongMoment = wrong_moment
+number CountsDiffer = counts_differ
+number SumsDiffer = sums_differ
+number ValueDiffers = value_differs
+number AbsenceNotShown = absence_not_shown
+number NoRoom = no_room
+number WrongCache = wrong_cache
+number BadTerm = bad_term
+number TooLong = too_long
+
+abbrev pub IsNumberOf : Refusal → ℕ → Type 0
+IsNumberOf r n = n ≡ number r
+
+-- what a call's outcome is told by: 0, or the number of the refusal
+abbrev pub told : {T : Type 0} → Result T Refusal → ℕ
+told (Ok x) = accepted
+told (Err r) = number r

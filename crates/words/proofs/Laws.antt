@@ -1,16 +1,18 @@
 -- Laws of numbers as bytes, over every width, and of splices. Assumes nothing.
 use Prim.Native.Nat.{ℕ, zero, suc, ◌+◌, ◌*◌, ◌-◌, ◌/◌, ◌%◌, ◌^◌, ◌≤◌, ◌<◌}
-use mathlib.Core.Path.{◌≡◌, refl, ap, sym, ◌∙◌}
+use mathlib.Core.Path.{◌≡◌, refl, ap, ap₂, sym, ◌∙◌}
 use mathlib.Core.List.{List, [], ◌∷◌, ◌++◌, append_assoc, append-nil}
 use mathlib.Core.Bool.{Bool, true, false, false≢true}
-use native.Mathlib.Nat.{mod-eq_of_lt, add_assoc, add-zero, add-suc, one-le-pow, mod-lt, div-one, div-div-eq-div-mul, mul_comm, mul_assoc, pow-suc, add-sub_cancel_left, zero-add, div-add-mod', div-lt_iff_lt-mul}
+use native.Mathlib.Nat.{add_assoc, add-zero, add-suc, one-le-pow, suc-add, mod-lt, div-one, div-div-eq-div-mul, mul_comm, mul_assoc, pow-suc, add-sub_cancel_left, zero-add, div-add-mod', div-lt_iff_lt-mul}
 use native.Mathlib.Numerals.{add-one}
 use native.Mathlib.Decide.{dec_lt}
 use native.Mathlib.Omega.{arith}
 use lib.Dec.{lit<}
 use lib.Arith.{mod-mul, digits_lt, digits_div, digits_mod}
-use lib.ListN.{length, get_or, take, drop, set, length-append, length-take, length-drop, length-replicate, take-append-drop, get_or-append, get_or-eq_default}
-use lib.Seq.{take-append_seam, drop-append-add, drop-drop, drop-length, set_split, get_or_at, get_or-append-add, get_or-drop, take-suc, take_at, take_all, length-take-le, take-add, get_or-take}
+use lib.ListN.{length, get_or, replicate, take, drop, set, length-append, length-take, length-drop, length-replicate, take-append-drop, get_or-append, get_or-eq_default}
+use lib.Seq.{take-append_seam, drop-append-add, drop-drop, drop-length, set_split, get_or_at, get_or-append-add, get_or-drop, take-suc, take_at, take_all, take-add, get_or-take}
+use Rattle.std.specs.Int.{bytes_high_first, from_be_bytes, w64}
+use Rattle.std.proofs.lemmas.List.{get_or-replicate, take-replicate, drop-replicate}
 use Rattle.words.specs.Choice.{pick, both}
 use Rattle.words.specs.Numbers.{number_at, bytes_of, two_words, four_words, zeros, Bytes}
 use Rattle.words.specs.Splices.{splice, part}
@@ -77,11 +79,6 @@ number_split a (suc b) s at = rw (add-suc, number_split a b s at, pow-suc, add_a
 -- two numbers that stand side by side make one
 pub number_join : (a b : ℕ) (s : List ℕ) (at x y : ℕ) → x ≡ number_at a s at → y ≡ number_at b s (at + a) → x * 256 ^ b + y ≡ number_at (a + b) s at
 number_join a b s at x y p q = rw (p, q) (sym (number_split a b s at))
-
--- a byte is a number of one byte
-pub number_one : (s : List ℕ) (at x : ℕ) → x ≡ get_or s at 0 → x ≡ number_at 1 s at
-unfolding number_at
-number_one s at x e = rw add-zero (omega arith)
 
 -- the low n bytes of a number do not see the rest of it
 pub bytes_low : (n x : ℕ) → bytes_of n (x % 256 ^ n) ≡ bytes_of n x
@@ -163,11 +160,6 @@ back_as xs ys zs a n p e = rw p (back_splice xs zs a n e)
 pub part_length : (xs : List ℕ) (a n : ℕ) → a + n ≤ length xs → length (take (a + n - a) (drop a xs)) ≡ n
 part_length xs a n h = simp (length-take, length-drop) (omega arith)
 
--- one store of a number of one byte
-pub set_byte : (d : List ℕ) (at x : ℕ) → x < 256 → at < length d → set d at x ≡ splice d at (bytes_of 1 x)
-unfolding bytes_of
-set_byte d at x b h = rw (mod-eq_of_lt b) (set_splice d at x h)
-
 -- a number's high part stored, and then its low part behind it
 pub put_join : (a b : ℕ) (d m r : List ℕ) (at x : ℕ) → m ≡ splice d at (bytes_of a (x / 256 ^ b)) → r ≡ splice m (at + a) (bytes_of b (x % 256 ^ b))
     → at + (a + b) ≤ length d → r ≡ splice d at (bytes_of (a + b) x)
@@ -178,15 +170,6 @@ put_join a b d m r at x p q h =
 pub splice_none : (d : List ℕ) (at : ℕ) → d ≡ splice d at []
 unfolding splice
 splice_none d at = rw add-zero (sym (take-append-drop at d))
-
--- a copy, with one byte more
-pub copy_more : (d s : List ℕ) (at i : ℕ) → i < length s → at + length s ≤ length d → set (splice d at (take i s)) (at + i) (get_or s i 0) ≡ splice d at (take (i + 1) s)
-copy_more d s at i h f =
-    let n : length (take i s) ≡ i = length-take-le i s (omega arith) in
-    let g : length (splice d at (take i s)) ≡ length d = splice_length d (take i s) at i n (omega arith) in
-    set_splice (splice d at (take i s)) (at + i) (get_or s i 0) (omega arith)
-    ∙ splice_join d (take i s) at i n (omega arith) (get_or s i 0 ∷ [])
-    ∙ ap (splice d at) (sym (rw add-one (take-suc s i 0 h)))
 
 -- three stores, each behind the one before
 pub splice_three : (d m n r : List ℕ) (at a b : ℕ) (u v w : List ℕ) → m ≡ splice d at u → n ≡ splice m (at + a) v → r ≡ splice n (at + b) w
@@ -201,6 +184,60 @@ pub splice_four : (d m n o r : List ℕ) (at a b c : ℕ) (u v w x : List ℕ) �
 splice_four d m n o r at a b c u v w x p q s t e f g h =
     splice_three d n o r at b c (u ++ v) w x (splice_step d m n at a u v p q e (omega arith)) s t (simp length-append (omega arith)) g h
     ∙ ap (splice d at) (append_assoc u v (w ++ x))
+
+-- one byte more, and a number of up to eight bytes fits a word
+-- what stands in a part
+pub part_get : (s : List ℕ) (at n i : ℕ) → i < n → get_or (take n (drop at s)) i 0 ≡ get_or s (at + i) 0
+part_get s at n i h = rw (get_or-take n (drop at s) i 0 h, get_or-drop) refl
+
+-- std's number of eight bytes, of which zeros stand first
+number_zeros : (n k : ℕ) (r : List ℕ) → n ≤ k → number_at n (replicate k 0 ++ r) 0 ≡ 0
+unfolding number_at
+number_zeros zero k r h = refl
+number_zeros (suc n) k r h =
+    let g : n < k = h in
+    rw (number_zeros n k r (omega arith), zero-add n, get_or-append (replicate k 0) r 0 n (omega (arith, length-replicate {A = ℕ} k 0)), get_or-replicate {A = ℕ} k n 0 0 g)
+
+eight : (b : List ℕ) → from_be_bytes w64 b ≡ number_at 8 b 0
+unfolding number_at
+eight b = omega arith
+
+number_part : (n k : ℕ) (s : List ℕ) (at : ℕ) → n ≤ k → number_at n (take k (drop at s)) 0 ≡ number_at n s at
+unfolding number_at
+number_part zero k s at h = refl
+number_part (suc n) k s at h =
+    let g : n < k = h in
+    rw (number_part n k s at (omega arith), zero-add n, part_get s at k n g)
+
+pub number_padded : (n at : ℕ) (s b : List ℕ) → n ≤ 8 → at + n ≤ length s → b ≡ splice (replicate 8 0) (8 - n) (take (at + n - at) (drop at s)) → from_be_bytes w64 b ≡ number_at n s at
+unfolding splice
+number_padded n at s b h k e =
+    let p : List ℕ = take (at + n - at) (drop at s) in
+    let l : length p ≡ n = part_length s at n k in
+    let z : 8 ≡ 8 - n + n = omega arith in
+    let r : 8 - (8 - n + length p) ≡ 0 = omega arith in
+    let f : b ≡ replicate (8 - n) 0 ++ (p ++ []) =
+    e ∙ ap₂ (λ (x y : List ℕ). x ++ (p ++ y)) (take-replicate (8 - n) 8 0 (omega arith)) (drop-replicate (8 - n + length p) 8 0 ∙ ap (λ (i : ℕ). replicate {A = ℕ} i 0) r) in
+    let low : number_at n b (0 + (8 - n)) ≡ number_at n s at =
+    ap (λ (x : List ℕ). number_at n x (0 + (8 - n))) f
+    ∙ ap (number_at n (replicate (8 - n) 0 ++ (p ++ []))) (omega arith)
+    ∙ number_behind n (replicate (8 - n) 0) (p ++ []) 0 (8 - n) (length-replicate (8 - n) 0)
+    ∙ number_front n p [] 0 (omega arith) ∙ number_part n (at + n - at) s at (omega arith) in
+    let high : number_at (8 - n) b 0 ≡ 0 = ap (λ (x : List ℕ). number_at (8 - n) x 0) f ∙ number_zeros (8 - n) (8 - n) (p ++ []) (omega arith) in
+    eight b ∙ ap (λ (i : ℕ). number_at i b 0) z ∙ number_split (8 - n) n b 0 ∙ rw (high, low) (omega arith)
+
+-- std's spelling of a number's bytes, and their last n
+pub bytes_high : (n x : ℕ) → bytes_high_first n x ≡ bytes_of n x
+unfolding bytes_of
+bytes_high zero x = refl
+bytes_high (suc zero) x = refl
+bytes_high (suc (suc n)) x =
+    ap (λ (l : List ℕ). x / 256 ^ suc n % 256 ∷ l) (bytes_high (suc n) x)
+    ∙ sym (let e : suc (suc n) ≡ 1 + suc n = omega arith in ap (λ (k : ℕ). bytes_of k x) e ∙ bytes_front 1 (suc n) x)
+
+pub high_last : (k n x : ℕ) → drop k (bytes_high_first (k + n) x) ≡ bytes_of n x
+high_last zero n x = rw zero-add (bytes_high n x)
+high_last (suc k) n x = rw suc-add (high_last k n x)
 
 -- ---- tests
 

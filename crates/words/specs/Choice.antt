@@ -1,5 +1,5 @@
 -- Tests and choices by them. A definition of a contract is a chain of these, in the order of the paper's checks.
-use Rattle.std.specs.Prelude.{Bool, true, false, ◌≡◌}
+use Rattle.std.specs.Prelude.{Bool, true, false, ◌≡◌, ◌&&◌, not}
 use Rattle.std.proofs.Common.{sym, ◌∙◌}
 
 -- the first where the test holds, the second where it does not
@@ -8,12 +8,10 @@ pick true a b = a
 pick false a b = b
 
 abbrev pub both : Bool → Bool → Bool
-both true b = b
-both false b = false
+both a b = a && b
 
 abbrev pub no : Bool → Bool
-no true = false
-no false = true
+no a = not a
 
 -- Two outcomes that meet one contract of the form `outcome ≡ definition` are equal.
 pub one_outcome : {A : Type 0} (x y d : A) → x ≡ d → y ≡ d → x ≡ y

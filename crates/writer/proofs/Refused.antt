@@ -14,7 +14,7 @@ use Rattle.value.proofs.Written.{AllBytes, then, one, number, key, value}
 use Rattle.entry.specs.Entries.{read_entry, entry_tag, entry_body, entry_bytes, well_entry}
 use Rattle.entry.specs.declared.Entry.{Entry}
 use Rattle.entry.specs.declared.Entry.TheVariants.{AddTree, AddDeferred, EvictTree, EvictDeferred, EvictTreeDeferred, Get, Absent, Put, Advance, Close}
-use Rattle.entry.specs.declared.Reading.TheVariants as reading
+use Rattle.std.specs.Prelude.{Ok}
 use Rattle.writer.proofs.Same.{not_well_lem}
 
 data_key_lem : (k : Key) → AllBytes (data_bytes k)
@@ -51,5 +51,5 @@ unfolding entry_bytes
 entry_bytes_lem e = (then (one (entry_tag e) (tag_small e)) (then (number 2 (length (entry_body e))) (body e))).bytes
 
 -- an entry that is not well formed would not be read back, whatever bytes follow
-pub not_back : (e : Entry) → well_entry e ≡ false → (r : List ℕ) → Bytes r → (n : ℕ) → read_entry (entry_bytes e ++ r) ≡ reading.Good e n → ⊥
+pub not_back : (e : Entry) → well_entry e ≡ false → (r : List ℕ) → Bytes r → (n : ℕ) → read_entry (entry_bytes e ++ r) ≡ Ok (e, n) → ⊥
 not_back e w r b n p = not_well_lem (entry_bytes e ++ r) (append_bytes (entry_bytes e) r (entry_bytes_lem e) b) e n w p

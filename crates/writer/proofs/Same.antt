@@ -1,6 +1,6 @@
 -- What is read as an entry is written as the same bytes, so no two byte strings mean one entry. Assumes nothing.
 use Prim.Native.Nat.{ℕ, ◌+◌, ◌^◌, ◌≤◌, ◌<◌}
-use mathlib.Core.Path.{◌≡◌, refl, sym, ◌∙◌}
+use mathlib.Core.Path.{◌≡◌, refl, ap, sym, ◌∙◌}
 use mathlib.Core.List.{List, [], ◌∷◌, ◌++◌}
 use mathlib.Core.Bool.{true, false, true≢false}
 use native.Mathlib.Omega.{arith}
@@ -14,22 +14,17 @@ use Rattle.words.specs.Splices.{part}
 use Rattle.words.proofs.Laws.{number_lt, bytes_back, part_one, part_step, part_bytes, picked, true_both, never}
 use Rattle.key.specs.Keys.{key_at, data_at, data_bytes, well_key, is_data, KeyFits}
 use Rattle.key.specs.declared.Key.{Key}
-use Rattle.key.specs.declared.KeyRead.{KeyRead}
-use Rattle.key.specs.declared.KeyRead.TheVariants as kr
 use Rattle.key.proofs.Laws.{key_same, key_well, key_fits, data_same, data_fits}
 use Rattle.value.specs.Values.{value_at, value_bytes, well_value, ValueFits}
 use Rattle.value.specs.declared.Value.{Value}
-use Rattle.value.specs.declared.ValueRead.{ValueRead}
-use Rattle.value.specs.declared.ValueRead.TheVariants as vr
 use Rattle.value.proofs.Same.{ValueThere, value_same}
-use Rattle.entry.specs.Entries.{ends_with, add_tree_key, add_tree_at, add_deferred_key, add_deferred_at, pair_of_slots, evict_deferred_at, record_at, absent_at, empty_at, entry_of, head_of, read_by, reading_of, read_entry, entry_tag, entry_body, entry_bytes, well_entry}
+use Rattle.std.specs.Result.{result_ok}
+use Rattle.std.proofs.lemmas.Option.{some_pair_parts}
+use Rattle.entry.specs.Entries.{Reading, ends_with, add_tree_key, add_tree_at, add_deferred_key, add_deferred_at, pair_of_slots, evict_deferred_at, record_at, absent_at, empty_at, entry_of, head_of, read_by, reading_of, read_entry, entry_tag, entry_body, entry_bytes, well_entry}
 use Rattle.entry.specs.declared.Entry.{Entry}
 use Rattle.entry.specs.declared.Entry.TheVariants.{AddTree, AddDeferred, EvictTree, EvictTreeDeferred, Get, Put, Advance, Close}
-use Rattle.entry.specs.declared.EntryRead.{EntryRead}
-use Rattle.entry.specs.declared.EntryRead.TheVariants.{Good, Bad}
 use Rattle.entry.specs.declared.Head.{Head}
-use Rattle.entry.specs.declared.Head.TheVariants.{Cut, Whole}
-use Rattle.entry.specs.declared.Reading.TheVariants as reading
+use Rattle.std.specs.Prelude.{Option, Some, None, Ok}
 use Rattle.entry.proofs.Laws.{HeadThere, head_there}
 use Rattle.writer.specs.Writings.{EntryFits}
 
@@ -42,7 +37,7 @@ record BodyThere (t : ℕ) (b : List ℕ) (e : Entry) : Type 0 where
   well : well_entry e ≡ true
   fits : EntryFits e
 
-there : {t : ℕ} {b : List ℕ} {d e : Entry} → BodyThere t b d → Good d ≡ Good e → BodyThere t b e
+there : {t : ℕ} {b : List ℕ} {d e : Entry} → BodyThere t b d → Some d ≡ Some e → BodyThere t b e
 there {t} {b} {d} {e} h p = let q : d ≡ e = cc in rw q at h
 
 module _ (b : List ℕ) (bytes : Bytes b) where
@@ -54,24 +49,24 @@ module _ (b : List ℕ) (bytes : Bytes b) where
   number_same : (n at : ℕ) → at + n ≤ length b → bytes_of n (number_at n b at) ≡ part b at n
   number_same n at h = bytes_back n b at bytes h
 
-  ends : {C : Type 0} (at : ℕ) (make : Value → Entry) (e : Entry) → ends_with b at make (value_at b at) ≡ Good e
-      → ((x : Value) (n : ℕ) → ValueThere b at x n → at + n ≡ length b → Good (make x) ≡ Good e → C) → C
+  ends : {C : Type 0} (at : ℕ) (make : Value → Entry) (e : Entry) → ends_with b at make (value_at b at) ≡ Some e
+      → ((x : Value) (n : ℕ) → ValueThere b at x n → at + n ≡ length b → Some (make x) ≡ Some e → C) → C
   ends {C} at make e p f = go (value_at b at) refl p
     where
-      go : (r : ValueRead) → value_at b at ≡ r → ends_with b at make r ≡ Good e → C
-      go vr.Bad q u = never cc
-      go (vr.Good x n) q u = picked (eqb (at + n) (length b)) _ _ _ u (λ t w. f x n (value_same b at bytes x n q) (eqb-true _ _ t) w) (λ _ w. never cc)
+      go : (r : Option (Value × ℕ)) → value_at b at ≡ r → ends_with b at make r ≡ Some e → C
+      go None q u = never cc
+      go (Some (x, n)) q u = picked (eqb (at + n) (length b)) _ _ _ u (λ t w. f x n (value_same b at bytes x n q) (eqb-true _ _ t) w) (λ _ w. never cc)
 
-  add_tree_same : (e : Entry) → add_tree_at b ≡ Good e → BodyThere 1 b e
+  add_tree_same : (e : Entry) → add_tree_at b ≡ Some e → BodyThere 1 b e
   unfolding add_tree_at entry_tag entry_body well_entry
   add_tree_same e p =
       picked (ltb (length b) 38) _ _ _ p (λ _ q. never cc) λ a q.
       let h : 38 ≤ length b = ltb-false _ _ a in
       go h (key_at b 4) refl q
     where
-      go : 38 ≤ length b → (r : KeyRead) → key_at b 4 ≡ r → add_tree_key b r ≡ Good e → BodyThere 1 b e
-      go h kr.Bad q u = never cc
-      go h (kr.Good k) q u = ends 38 (AddTree (number_at 2 b 0) (number_at 2 b 2) k) e u λ x n v l.
+      go : 38 ≤ length b → (r : Option Key) → key_at b 4 ≡ r → add_tree_key b r ≡ Some e → BodyThere 1 b e
+      go h None q u = never cc
+      go h (Some k) q u = ends 38 (AddTree (number_at 2 b 0) (number_at 2 b 2) k) e u λ x n v l.
           there (record {
             tag = refl;
             body =
@@ -86,16 +81,16 @@ module _ (b : List ℕ) (bytes : Bytes b) where
             fits = (number_lt 2 b 0 bytes, (number_lt 2 b 2 bytes, (key_fits b 4 k q bytes, v.fits)));
           })
 
-  add_deferred_same : (e : Entry) → add_deferred_at b ≡ Good e → BodyThere 2 b e
+  add_deferred_same : (e : Entry) → add_deferred_at b ≡ Some e → BodyThere 2 b e
   unfolding add_deferred_at entry_tag entry_body well_entry
   add_deferred_same e p =
       picked (ltb (length b) 52) _ _ _ p (λ _ q. never cc) λ a q.
       let h : 52 ≤ length b = ltb-false _ _ a in
       go h (key_at b 18) refl q
     where
-      go : 52 ≤ length b → (r : KeyRead) → key_at b 18 ≡ r → add_deferred_key b r ≡ Good e → BodyThere 2 b e
-      go h kr.Bad q u = never cc
-      go h (kr.Good k) q u = ends 52 (AddDeferred (number_at 2 b 0) (record { 0 = number_at 8 b 2 }) (record { 0 = number_at 8 b 10 }) k) e u λ x n v l.
+      go : 52 ≤ length b → (r : Option Key) → key_at b 18 ≡ r → add_deferred_key b r ≡ Some e → BodyThere 2 b e
+      go h None q u = never cc
+      go h (Some k) q u = ends 52 (AddDeferred (number_at 2 b 0) (record { 0 = number_at 8 b 2 }) (record { 0 = number_at 8 b 10 }) k) e u λ x n v l.
           there (record {
             tag = refl;
             body =
@@ -113,7 +108,7 @@ module _ (b : List ℕ) (bytes : Bytes b) where
           })
 
   -- the two entries of two slots, and the two of a record, differ in their tags alone
-  slots_same : (t : ℕ) (make : ℕ → ℕ → Entry) (e : Entry) → pair_of_slots b make ≡ Good e
+  slots_same : (t : ℕ) (make : ℕ → ℕ → Entry) (e : Entry) → pair_of_slots b make ≡ Some e
       → ((s p : ℕ) → s < 2 ^ 16 → p < 2 ^ 16 → bytes_of 2 s ++ bytes_of 2 p ≡ b → BodyThere t b (make s p)) → BodyThere t b e
   unfolding pair_of_slots
   slots_same t make e p f =
@@ -125,7 +120,7 @@ module _ (b : List ℕ) (bytes : Bytes b) where
       q)
       (λ _ q. never cc)
 
-  evict_deferred_same : (e : Entry) → evict_deferred_at b ≡ Good e → BodyThere 4 b e
+  evict_deferred_same : (e : Entry) → evict_deferred_at b ≡ Some e → BodyThere 4 b e
   unfolding evict_deferred_at entry_tag entry_body well_entry
   evict_deferred_same e p =
       picked (eqb (length b) 2) _ _ _ p
@@ -137,7 +132,7 @@ module _ (b : List ℕ) (bytes : Bytes b) where
   unfolding data_at
   data_is at = refl
 
-  record_same : (t : ℕ) (make : ℕ → Key → Value → Entry) (e : Entry) → record_at b make ≡ Good e
+  record_same : (t : ℕ) (make : ℕ → Key → Value → Entry) (e : Entry) → record_at b make ≡ Some e
       → ((s : ℕ) (k : Key) (x : Value) → s < 2 ^ 16 → KeyFits k → ValueFits x → both (is_data k) (well_value x) ≡ true
       → bytes_of 2 s ++ (data_bytes k ++ value_bytes x) ≡ b → BodyThere t b (make s k x))
       → BodyThere t b e
@@ -153,7 +148,7 @@ module _ (b : List ℕ) (bytes : Bytes b) where
       refl (omega arith))
       l))
 
-  absent_same : (e : Entry) → absent_at b ≡ Good e → BodyThere 7 b e
+  absent_same : (e : Entry) → absent_at b ≡ Some e → BodyThere 7 b e
   unfolding absent_at entry_tag entry_body well_entry
   absent_same e p =
       picked (eqb (length b) 34) _ _ _ p
@@ -168,14 +163,14 @@ module _ (b : List ℕ) (bytes : Bytes b) where
       q)
       (λ _ q. never cc)
 
-  empty_same : (t : ℕ) (d e : Entry) → empty_at b d ≡ Good e → ([] ≡ b → BodyThere t b d) → BodyThere t b e
+  empty_same : (t : ℕ) (d e : Entry) → empty_at b d ≡ Some e → ([] ≡ b → BodyThere t b d) → BodyThere t b e
   unfolding empty_at
   empty_same t d e p f =
       picked (eqb (length b) 0) _ _ _ p
       (λ a q. let h : length b ≡ 0 = eqb-true _ _ a in there (f (all 0 [] refl (sym h))) q)
       (λ _ q. never cc)
 
-  body_same : (t : ℕ) (e : Entry) → entry_of t b ≡ Good e → BodyThere t b e
+  body_same : (t : ℕ) (e : Entry) → entry_of t b ≡ Some e → BodyThere t b e
   unfolding entry_of entry_tag entry_body well_entry
   body_same t e p =
       picked (eqb t 1) _ _ _ p (λ a q. retag 1 a (add_tree_same e q)) λ _ p.
@@ -193,6 +188,9 @@ module _ (b : List ℕ) (bytes : Bytes b) where
       retag n a h = rw (eqb-true t n a) h
 
 -- ---- the whole entry
+
+ok_parts : {d e : Entry} {m n : ℕ} → ◌≡◌ {A = Reading} (Ok (d, m)) (Ok (e, n)) → (d ≡ e) × (m ≡ n)
+ok_parts {d} {e} {m} {n} p = let q = some_pair_parts d e m n (ap result_ok p) in q
 
 -- the n bytes at the start of a log are those of the entry e
 pub record EntryThere (log : List ℕ) (e : Entry) (n : ℕ) : Type 0 where
@@ -218,26 +216,25 @@ module _ (log : List ℕ) (b : Bytes log) where
       }
 
   -- what is read as an entry is written as the same bytes
-  pub entry_same : (e : Entry) (n : ℕ) → read_entry log ≡ reading.Good e n → EntryThere log e n
+  pub entry_same : (e : Entry) (n : ℕ) → read_entry log ≡ Ok (e, n) → EntryThere log e n
   unfolding read_entry
   entry_same e n p = go (head_of log) refl p
     where
-      body : (t m : ℕ) → HeadThere log t m → (r : EntryRead) → entry_of t (part log 3 m) ≡ r → reading_of (3 + m) r ≡ reading.Good e n → EntryThere log e n
-      body t m h Bad q u = never cc
-      body t m h (Good d) q u =
-          let same : d ≡ e = cc in
-          let used : 3 + m ≡ n = cc in
-          rw (← same, ← used) (whole_same t m d h (body_same (part log 3 m) (part_bytes log 3 m b) t d q))
+      body : (t m : ℕ) → HeadThere log t m → (r : Option Entry) → entry_of t (part log 3 m) ≡ r → reading_of (3 + m) r ≡ Ok (e, n) → EntryThere log e n
+      body t m h None q u = never cc
+      body t m h (Some d) q u =
+          let same = ok_parts u in
+          rw (← same.0, ← same.1) (whole_same t m d h (body_same (part log 3 m) (part_bytes log 3 m b) t d q))
 
-      go : (h : Head) → head_of log ≡ h → read_by log h ≡ reading.Good e n → EntryThere log e n
-      go Cut q u = never cc
-      go (Whole t m) q u = body t m (head_there log t m q) (entry_of t (part log 3 m)) refl u
+      go : (h : Option Head) → head_of log ≡ h → read_by log h ≡ Ok (e, n) → EntryThere log e n
+      go None q u = never cc
+      go (Some h) q u = body h.tag h.len (head_there log h.tag h.len q) (entry_of h.tag (part log 3 h.len)) refl u
 
   -- an entry that is not well formed is read from no bytes at all, its own among them
-  pub not_well_lem : (e : Entry) (n : ℕ) → well_entry e ≡ false → read_entry log ≡ reading.Good e n → ⊥
+  pub not_well_lem : (e : Entry) (n : ℕ) → well_entry e ≡ false → read_entry log ≡ Ok (e, n) → ⊥
   not_well_lem e n w p = true≢false (sym (entry_same e n p).well ∙ w)
 
 -- no two byte strings mean one entry: what two logs use for it is the same
-pub one_writing : (x y : List ℕ) → Bytes x → Bytes y → (e : Entry) (m n : ℕ) → read_entry x ≡ reading.Good e m → read_entry y ≡ reading.Good e n
+pub one_writing : (x y : List ℕ) → Bytes x → Bytes y → (e : Entry) (m n : ℕ) → read_entry x ≡ Ok (e, m) → read_entry y ≡ Ok (e, n)
     → take m x ≡ take n y
 one_writing x y bx by e m n p q = sym (entry_same x bx e m p).bytes ∙ (entry_same y by e n q).bytes

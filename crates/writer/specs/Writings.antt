@@ -1,14 +1,24 @@
 -- The writer of entries (document 01, "Verdict numbers": it refuses 2, then 27, and touches only the bytes of its entry).
-use Rattle.std.specs.Prelude.{ℕ, ◌^◌, ◌<◌, List, length, ltb}
+use Rattle.std.specs.Prelude.{ℕ, ◌^◌, ◌<◌, List, Result, Ok, Err, length, ltb}
 use Rattle.words.specs.Choice.{pick}
 use Rattle.words.specs.Splices.{splice}
 use Rattle.key.specs.Keys.{KeyFits}
 use Rattle.value.specs.Values.{ValueFits}
-use Rattle.verdict.specs.Verdicts.{accepted, malformed, no_room}
+use Rattle.verdict.specs.Verdicts.{accepted, malformed, no_room, number}
+use Rattle.verdict.specs.declared.Refusal.{Refusal}
 use Rattle.entry.specs.Entries.{entry_bytes, well_entry}
 use Rattle.entry.specs.declared.Entry.{Entry}
 use Rattle.entry.specs.declared.Entry.TheVariants.{AddTree, AddDeferred, EvictTree, EvictDeferred, EvictTreeDeferred, Get, Absent, Put, Advance, Close}
-use Rattle.writer.specs.declared.Written.{Written}
+
+-- what the writer answers: 0, 2 or 27, and how many bytes it wrote
+pub record Written : Type 0 where
+  pub verdict : ℕ
+  pub used : ℕ
+
+-- the same of what the code returns
+abbrev pub written : Result ℕ Refusal → Written
+written (Ok n) = record { verdict = accepted; used = n }
+written (Err r) = record { verdict = number r; used = 0 }
 
 -- what the writer comes to: its answer, and every byte of the lent buffer
 pub record Writing : Type 0 where

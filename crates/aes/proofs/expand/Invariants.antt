@@ -1,12 +1,9 @@
 use mathlib.Core.Path.{◌≡◌}
-use Prim.Native.Nat.{◌+◌, ◌*◌, ◌≤◌, ◌-◌}
+use Prim.Native.Nat.{◌+◌, ◌*◌}
 use lib.ListN.{length, take}
 use Rattle.aes.specs.Aes.{schedule}
 use Rattle.aes.proofs.Laws.{window}
 use Rattle.aes.proofs.expand.Given as goal
 
 abbrev pub invariant-loop-j : goal.invariant-loop-j
-invariant-loop-j l = (l.j ≤ 40) × (length l.b ≡ 176) × (take (16 + 4 * l.j) l.b ≡ schedule l.key l.j) × (l.s ≡ window (schedule l.key l.j) l.j)
-
-abbrev pub decreases-loop-j : goal.decreases-loop-j
-decreases-loop-j l = 40 - l.j
+invariant-loop-j l = (length l.b ≡ 176) × (take (16 + 4 * l.j) l.b ≡ schedule l.key l.j) × (l.s ≡ window (schedule l.key l.j) l.j)

@@ -1,17 +1,12 @@
-use Rattle.cache.proofs.Laws.{well_starts, well_more, well_stop, well_over}
-use native.Mathlib.Omega.{arith}
-use borrow.Author.Rules.{rules}
-use mathlib.Core.Path.{sym, ◌∙◌}
+use Rattle.std.proofs.Common.{rules, tests, ◌∙◌, refl}
+use native.Mathlib.Nat.{sub-zero}
+use Rattle.std.proofs.lemmas.Iterator.{YieldsList-from_range}
+use Rattle.std.proofs.lemmas.Iterator.Search.{all_from_yields_List}
+use Rattle.cache.specs.Caches.{well_at, count}
+use Rattle.cache.proofs.Chunks.{well_all}
 use Rattle.cache.proofs.well_cache.Goals as goal
 
-pub loop-i-init : goal.loop-i-init
-loop-i-init c = (search rules, well_starts c.args.cache.now)
-
-pub loop-i-preserved : goal.loop-i-preserved
-loop-i-preserved c = (omega arith, well_more c.args.cache.now _ c.loop-i.i c.loop-i-test.true (sym c.well_at.ensures ∙ c.if-well_at.true) ∙ c.loop-i.invariant.1)
-
-pub returns-else-well_at : goal.returns-else-well_at
-returns-else-well_at c = well_stop c.args.cache.now _ c.loop-i.i c.loop-i-test.true (sym c.well_at.ensures ∙ c.if-well_at.false) ∙ c.loop-i.invariant.1
-
 pub returns : goal.returns
-returns c = well_over c.args.cache.now _ c.loop-i.i c.loop-i-test.false ∙ c.loop-i.invariant.1
+returns c =
+    all_from_yields_List (λ j. well_at c.args.cache.now j) _ _ _ c.all.ensures.ran (YieldsList-from_range 0 (count c.args.cache.now) _ refl (sub-zero _)) (λ x b q k. search (rules, tests))
+    ∙ well_all c.args.cache.now

@@ -1,9 +1,9 @@
-use Rattle.hash.proofs.Laws.{set_length}
+use Rattle.hash.specs.Hashes.{set_bytes}
+use Rattle.words.proofs.Laws.{splice_step, two_length}
+use Rattle.std.proofs.Common.{rules}
 use Rattle.flat.specs.Flats.{front_bytes}
-use Rattle.words.proofs.Laws.{splice_three, bytes_length}
-use borrow.Author.Rules.{rules}
 use Rattle.flat.proofs.put_front.Goals as goal
 
 pub returns : goal.returns
-unfolding front_bytes
-returns c = splice_three _ _ _ _ 0 16 24 _ _ _ c.put_set.ensures c.put_word.ensures c.put_word-2.ensures (set_length _) (simp bytes_length) (search rules)
+unfolding front_bytes set_bytes
+returns c = splice_step _ _ _ 0 16 _ _ c.put_two.ensures c.put_two-2.ensures (two_length _ _) (search rules)

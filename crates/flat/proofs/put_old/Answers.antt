@@ -7,10 +7,10 @@ use mathlib.Core.Path.{refl, ap, ◌∙◌}
 use borrow.Author.Rules.{rules}
 use Rattle.flat.proofs.put_old.Goals as goal
 
-pub returns-in-Closed : goal.returns-in-Closed
+pub returns-in-None : goal.returns-in-None
 unfolding old_bytes
-returns-in-Closed c = rw c.in-Closed.is (splice_step _ _ _ _ 1 (0 ∷ []) _ c.put_u8.ensures (back_as _ _ _ _ 48 (c.clear.ensures ∙ ap zeros (part_length c.put_u8.new.s (c.args.at + 1) 48 (search rules))) (zeros_length 48)) refl (search rules))
+returns-in-None c = rw c.in-None.is (splice_step _ _ _ _ 1 (0 ∷ []) _ c.put_u8.ensures (back_as _ _ _ _ 48 (c.clear.ensures ∙ ap zeros (part_length c.put_u8.new.s (c.args.at + 1) 48 (search rules))) (zeros_length 48)) refl (search rules))
 
-pub returns-in-Open : goal.returns-in-Open
+pub returns-in-Some : goal.returns-in-Some
 unfolding old_bytes
-returns-in-Open c = rw c.in-Open.is (splice_step _ _ _ _ 1 (1 ∷ []) _ c.put_u8-in-Open.ensures c.put_tally.ensures refl (search rules))
+returns-in-Some c = rw c.in-Some.is (splice_step _ _ _ _ 1 (1 ∷ []) _ c.put_u8-in-Some.ensures c.put_tally.ensures refl (search rules))

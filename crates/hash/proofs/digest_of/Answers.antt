@@ -1,4 +1,5 @@
 use native.Mathlib.Omega.{arith}
+use Rattle.std.proofs.Common.{◌∙◌}
 use Rattle.value.proofs.Laws.{value_length_lem}
 use Rattle.hash.proofs.Laws.{digest_is, written_front, written_within, written_length}
 use Rattle.hash.proofs.digest_of.Goals as goal
@@ -13,4 +14,4 @@ pub slice_bounds-hash_of-end : goal.slice_bounds-hash_of-end
 slice_bounds-hash_of-end c = written_length _ _ _ _ c.write_value-n.ensures.0 c.write_value-n.ensures.1 (value_length_lem c.args.v)
 
 pub returns : goal.returns
-returns c = digest_is _ _ _ _ (written_front _ _ _ _ c.write_value-n.ensures.0 c.write_value-n.ensures.1 (value_length_lem c.args.v)) c.hash_of.ensures c.hash_words-w.ensures
+returns c = c.into.ensures ∙ digest_is _ _ _ _ (written_front _ _ _ _ c.write_value-n.ensures.0 c.write_value-n.ensures.1 (value_length_lem c.args.v)) c.hash_of.ensures c.hash_words.ensures

@@ -17,4 +17,4 @@ pub slice_bounds-mac-end : goal.slice_bounds-mac-end
 slice_bounds-mac-end c = written_length _ _ _ _ c.write_message-n.ensures.0 c.write_message-n.ensures.1 (message_short c.args.m)
 
 pub returns : goal.returns
-returns c = c.mac.ensures ∙ ap (λ (l : List ℕ). tag_words (cmac c.args.x.bytes l)) (written_front _ _ _ _ c.write_message-n.ensures.0 c.write_message-n.ensures.1 (message_short c.args.m))
+returns c = c.mac.ensures ∙ ap (λ (l : List ℕ). tag_words (cmac c.args.x.now.bytes l)) (written_front _ _ _ _ c.write_message-n.ensures.0 c.write_message-n.ensures.1 (message_short c.args.m))

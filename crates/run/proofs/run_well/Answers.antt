@@ -1,40 +1,30 @@
-use Rattle.run.proofs.Laws.{going_state, going_key, run_starts, run_over, turn_there, turn_goes, turn_going, turn_on, turn_stop, ended_well}
-use mathlib.Core.Path.{refl, sym, ◌∙◌}
+use Rattle.run.proofs.Laws.{between_there, between_set, between_ok_used, between_err_used, between_ok, between_err, between_stop}
+use Rattle.run.proofs.run_well.Goals.{in-Ok, in-Err+else-halts}
+use Rattle.rules.specs.declared.Ran.{Ran}
+use Rattle.rules.specs.Runs.{running}
+use mathlib.Core.Path.{ap, ◌∙◌}
 use native.Mathlib.Omega.{arith}
-use borrow.Author.Rules.{rules}
 use Rattle.run.proofs.run_well.Goals as goal
 
-pub loop-at-init : goal.loop-at-init
-loop-at-init c = (search rules, search rules, search rules, refl, record { well = c.requires.0; set = refl }, λ i. (c.slice_known-1.given i).fits, run_starts _ _ _)
-
-pub step_well-r-requires : goal.step_well-r-requires
-step_well-r-requires c = (going_state _ _ _ c.loop-at.invariant.4, going_key _ _ c.loop-at.cache _ c.loop-at.invariant.4 c.requires.1)
-
-pub shape_of-cache-then-halts : goal.shape_of-cache-then-halts
-shape_of-cache-then-halts c = c.step_well-r.auto.cache ∙ c.loop-at.invariant.3
+pub with-keyed-requires : goal.with-keyed-requires
+with-keyed-requires c = between_set c.loop-at.invariant c.loop-at-test.true c.step_well-step.result c.left.ensures c.step_well-step.ensures _ c.in-Ok.is
 
 pub returns-then-halts : goal.returns-then-halts
-returns-then-halts c = ended_well _ _ _ _ _ _ _ (turn_going c.args.log.now c.loop-at.at _ _ _ c.loop-at.invariant.4 _ _ _ c.left.ensures c.step_well-r.ensures (λ i. (c.shared_slice_known-1.given i).fits) c.loop-at.invariant.5) c.settled.ensures ∙ turn_stop c.args.log.now c.loop-at.at _ _ _ c.loop-at.invariant.4 _ _ _ c.left.ensures c.step_well-r.ensures c.loop-at.met c.loop-at.accepted c.loop-at-test.true (omega arith) _ c.loop-at.invariant.6 (sym c.halts.ensures ∙ c.if-halts.true)
+returns-then-halts c =
+    ap (λ (x : Ran). running x c.step_well-step.new.cache) c.ended.ensures
+    ∙ between_stop c.loop-at.invariant c.loop-at-test.true c.step_well-step.result c.left.ensures c.step_well-step.ensures _ c.in-Err.is (rw (← c.from.ensures, ← c.halts.ensures) c.if-halts.true)
 
 pub overflow_add-at : goal.overflow_add-at
-overflow_add-at c = omega (arith, turn_there c.args.log.now c.loop-at.at _ _ _ c.loop-at.invariant.4 _ _ _ c.left.ensures c.step_well-r.ensures (omega arith))
+overflow_add-at c = omega (arith, between_there c.loop-at.invariant c.loop-at-test.true c.step_well-step.result c.left.ensures c.step_well-step.ensures)
 
 pub loop-at-smaller : goal.loop-at-smaller
-loop-at-smaller c = omega (arith, turn_there c.args.log.now c.loop-at.at _ _ _ c.loop-at.invariant.4 _ _ _ c.left.ensures c.step_well-r.ensures (omega arith), turn_goes c.args.log.now c.loop-at.at _ _ _ c.loop-at.invariant.4 _ _ _ c.left.ensures c.step_well-r.ensures (sym c.halts.ensures ∙ c.if-halts.false))
+loop-at-smaller c = elim c.match-step.branch [
+  | in-Ok w ↦ omega (arith, between_there c.loop-at.invariant c.loop-at-test.true c.step_well-step.result c.left.ensures c.step_well-step.ensures, between_ok_used c.loop-at.invariant c.loop-at-test.true c.step_well-step.result c.left.ensures c.step_well-step.ensures _ w.in-Ok.is)
+  | in-Err+else-halts w ↦ omega (arith, between_there c.loop-at.invariant c.loop-at-test.true c.step_well-step.result c.left.ensures c.step_well-step.ensures, between_err_used c.loop-at.invariant c.loop-at-test.true c.step_well-step.result c.left.ensures c.step_well-step.ensures _ w.in-Err.is (rw (← w.from.ensures, ← w.halts.ensures) w.if-halts.false))
+]
 
 pub loop-at-preserved : goal.loop-at-preserved
-loop-at-preserved c = (
-  turn_there c.args.log.now c.loop-at.at _ _ _ c.loop-at.invariant.4 _ _ _ c.left.ensures c.step_well-r.ensures (omega arith),
-  omega (arith, turn_goes c.args.log.now c.loop-at.at _ _ _ c.loop-at.invariant.4 _ _ _ c.left.ensures c.step_well-r.ensures (sym c.halts.ensures ∙ c.if-halts.false)),
-  omega arith,
-  c.step_well-r.auto.cache ∙ c.loop-at.invariant.3,
-  turn_going c.args.log.now c.loop-at.at _ _ _ c.loop-at.invariant.4 _ _ _ c.left.ensures c.step_well-r.ensures (λ i. (c.shared_slice_known-1.given i).fits) c.loop-at.invariant.5,
-  λ i. (c.slice_known-in-loop-at-1.given i).fits,
-  turn_on c.args.log.now c.loop-at.at _ _ _ c.loop-at.invariant.4 _ _ _ c.left.ensures c.step_well-r.ensures c.loop-at.met c.loop-at.accepted c.loop-at-test.true (omega arith) _ c.loop-at.invariant.6 (sym c.halts.ensures ∙ c.if-halts.false) _ c.counted-accepted.ensures.0,
-)
-
-pub shape_of-cache : goal.shape_of-cache
-shape_of-cache c = c.loop-at.invariant.3
-
-pub returns : goal.returns
-returns c = ended_well _ _ _ _ _ _ _ c.loop-at.invariant.4 c.settled-2.ensures ∙ sym (run_over _ _ _ _ _ _ _ c.loop-at-test.false) ∙ c.loop-at.invariant.6
+loop-at-preserved c = elim c.match-step.branch [
+  | in-Ok w ↦ rw (w.keyed-is, w.with-keyed.ensures, w.accepted-is) (between_ok c.loop-at.invariant c.loop-at-test.true c.step_well-step.result c.left.ensures c.step_well-step.ensures _ w.in-Ok.is c.step_well-step.auto.cache (λ i. (c.type_inv.cache i).fits))
+  | in-Err+else-halts w ↦ rw (w.keyed-is, w.accepted-is) (between_err c.loop-at.invariant c.loop-at-test.true c.step_well-step.result c.left.ensures c.step_well-step.ensures _ w.in-Err.is (rw (← w.from.ensures, ← w.halts.ensures) w.if-halts.false) c.step_well-step.auto.cache (λ i. (c.type_inv.cache i).fits))
+]

@@ -1,10 +1,7 @@
-use mathlib.Core.Path.{◌≡◌}
-use Prim.Native.Nat.{◌-◌, ◌≤◌}
-use Rattle.sha256.specs.Sha256.{after}
+use Rattle.std.proofs.Common.{◌≡◌, length}
+use Rattle.std.specs.Slice.Iter.{chunks_exact_rest, chunks_exact_size}
+use Rattle.sha256.proofs.Laws.{Absorbed}
 use Rattle.sha256.proofs.absorb.Given as goal
 
-abbrev pub invariant-loop-i : goal.invariant-loop-i
-invariant-loop-i l = (l.i ≤ l.n) × (l.s ≡ after l.m l.i)
-
-abbrev pub decreases-loop-i : goal.decreases-loop-i
-decreases-loop-i l = l.n - l.i
+abbrev pub invariant-loop-b : goal.invariant-loop-b
+invariant-loop-b l = (chunks_exact_size l.b-iterator ≡ 64) × Absorbed l.m (chunks_exact_rest l.b-iterator) l.s (length l.yielded)

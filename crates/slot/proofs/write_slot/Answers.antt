@@ -4,14 +4,10 @@ use lib.ListN.{length}
 use Prim.Native.Nat.{ℕ, ◌+◌}
 use Rattle.words.proofs.Laws.{splice_three, zeros_length}
 use Rattle.key.proofs.Laws.{key_length}
-use Rattle.value.proofs.Laws.{value_length_lem}
 use native.Mathlib.Omega.{arith}
 use mathlib.Core.Path.{◌≡◌, refl, ap, ◌∙◌}
 use Rattle.slot.specs.Slots.{slot_bytes}
 use Rattle.slot.proofs.write_slot.Goals as goal
-
-pub write_value-requires : goal.write_value-requires
-write_value-requires c = omega (arith, value_length_lem c.args.v, c.write.auto, c.put_u8.auto, c.clear.auto, c.requires)
 
 pub returns : goal.returns
 unfolding slot_bytes

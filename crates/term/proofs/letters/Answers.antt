@@ -1,21 +1,9 @@
-use Rattle.term.proofs.Laws.{letters_more, letters_stop, letters_end}
-use native.Mathlib.Omega.{arith}
-use mathlib.Core.Path.{refl, sym, ◌∙◌}
-use borrow.Author.Rules.{rules}
+use Rattle.std.proofs.Common.{◌∙◌, rules, tests}
+use Rattle.std.specs.Char.{is_ascii_lowercase}
+use Rattle.std.proofs.lemmas.Iterator.{YieldsList-from_slice}
+use Rattle.std.proofs.lemmas.Iterator.Search.{all_from_yields_List}
+use Rattle.term.proofs.Laws.{letters_is}
 use Rattle.term.proofs.letters.Goals as goal
 
-pub loop-i-init : goal.loop-i-init
-loop-i-init c = (search rules, refl)
-
-pub loop-i-preserved : goal.loop-i-preserved
-loop-i-preserved c =
-    let l = c.loop-i in
-    (search rules, letters_more _ l.i (search rules) (sym c.if-letter.true ∙ c.letter.ensures) ∙ l.invariant.1)
-
-pub returns-else-letter : goal.returns-else-letter
-returns-else-letter c =
-    let l = c.loop-i in
-    letters_stop _ l.i (search rules) (sym c.if-letter.false ∙ c.letter.ensures) ∙ l.invariant.1
-
 pub returns : goal.returns
-returns c = letters_end _ c.loop-i.i (omega arith) ∙ c.loop-i.invariant.1
+returns c = all_from_yields_List is_ascii_lowercase _ _ c.all.result c.all.ensures.ran (YieldsList-from_slice c.args.s.now cc) (λ x b q k. search (rules, tests)) ∙ letters_is _

@@ -1,11 +1,11 @@
+use Rattle.std.proofs.Common.{◌≡◌, ◌+◌, ◌^◌, ◌≤◌, ◌<◌, drop, length}
 use Rattle.text.specs.Text.{digits_before, decimal}
-use mathlib.Core.Path.{◌≡◌}
-use Prim.Native.Nat.{◌^◌, ◌≤◌, ◌<◌}
-use lib.ListN.{length, drop}
 use Rattle.text.proofs.spell.Given as goal
 
-abbrev pub invariant-loop-rest : goal.invariant-loop-rest
-invariant-loop-rest l = (1 ≤ l.i) × (l.i ≤ 20) × (length l.d ≡ 20) × (l.rest < 10 ^ l.i) × (digits_before l.i l.rest (drop l.i l.d) ≡ decimal l.n)
-
-abbrev pub decreases-loop-rest : goal.decreases-loop-rest
-decreases-loop-rest l = l.i
+abbrev pub invariant-loop-i : goal.invariant-loop-i
+invariant-loop-i l = record {
+  whole : length l.d ≡ 20;
+  left : 1 ≤ l.i + l.rest;
+  few : l.rest < 10 ^ l.i;
+  text : digits_before l.i l.rest (drop l.i l.d) ≡ decimal l.n;
+}

@@ -1,15 +1,8 @@
 use Rattle.words.proofs.Laws.{splice_step}
 use Rattle.value.proofs.Laws.{fingerprint_length}
-use native.Mathlib.Omega.{arith}
-use mathlib.Core.Path.{sym, refl}
+use Rattle.std.proofs.Common.{sym, refl, arith}
 use Rattle.value.specs.Values.{fingerprint_bytes}
 use Rattle.value.proofs.write_fingerprint.Goals as goal
-
-pub put_u8-requires : goal.put_u8-requires
-put_u8-requires c = omega (arith, fingerprint_length c.args.d)
-
-pub write-requires : goal.write-requires
-write-requires c = omega (arith, fingerprint_length c.args.d)
 
 pub returns : goal.returns
 unfolding fingerprint_bytes

@@ -8,4 +8,4 @@ use Rattle.value.proofs.write_link.Goals as goal
 
 pub returns : goal.returns
 unfolding link_bytes
-returns c = splice_four _ _ _ _ _ _ 1 35 67 _ _ _ _ c.put_u8.ensures c.write.ensures c.write-2.ensures (rw c.mark_byte.ensures at c.put_u8-2.ensures) refl (simp key_length) (simp digest_length) (search rules)
+returns c = splice_four _ _ _ _ _ _ 1 35 67 _ _ _ _ c.put_u8.ensures c.write.ensures c.write-2.ensures (rw c.from.ensures at c.put_u8-2.ensures) refl (simp key_length) (simp digest_length) (search rules)

@@ -1,0 +1,2 @@
+-- What a step gives, as the rules tell it.
+pub mod Progress

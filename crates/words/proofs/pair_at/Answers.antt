@@ -1,6 +1,0 @@
-use Rattle.words.proofs.Laws.{number_join, number_one}
-use borrow.Author.Rules.{rules}
-use Rattle.words.proofs.pair_at.Goals as goal
-
-pub returns : goal.returns
-returns c = (number_join 1 1 _ _ _ _ (number_one _ _ _ c.wide.ensures.0) (number_one _ _ _ c.wide-2.ensures.0), search rules)

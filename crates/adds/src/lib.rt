@@ -12,8 +12,8 @@ ghost use Rattle.adds.specs.Parts.{add_same, add_first};
 ghost use Rattle.rules.specs.Adds.{linked, add_link, add_under, add_tree};
 
 use key::Key;
-use rules::Parent;
-use slot::{ORIGIN_TREE, SLOT_BYTES, Slot, set_slot, slot_of};
+use rules::{Parent, free_in, record_in};
+use slot::{ORIGIN_TREE, SLOT_BYTES, set_slot};
 use state::State;
 use tree::{bare_node, fits, is_first, with_side};
 use value::{Digest, Side, Value};
@@ -103,32 +103,27 @@ impl Record {
         requires { ((self.slot + 1) * slot_length ≤ length cache.old) × ((p + 1) * slot_length ≤ length cache.old) }
         ensures { (st : State) → outcome (gives (told result) st) cache.new ≡ add_under self.slot p self.key self.value st cache.old }
     {
-        match slot_of(cache, p) {
-            Slot::Free => Err(Refusal::SlotEmpty),
-            Slot::Bad => Err(Refusal::NotWell),
-            Slot::Full { origin, key, value } => {
-                if cache::held(cache, self.key) {
-                    return Err(Refusal::KeyHeld);
-                }
-                if !fits(self.key, self.value) {
-                    return Err(Refusal::WrongKind);
-                }
-                let Value::Node(node) = value else {
-                    return Err(Refusal::WrongKind);
-                };
-                if !key.above(self.key) {
-                    return Err(Refusal::NoAncestor);
-                }
-                let at = Parent {
-                    slot: p,
-                    origin,
-                    key,
-                    node,
-                    right: key.toward(self.key),
-                };
-                self.add_link(at, cache)
-            }
+        let parent = record_in(cache, p)?;
+        if cache::held(cache, self.key) {
+            return Err(Refusal::KeyHeld);
         }
+        if !fits(self.key, self.value) {
+            return Err(Refusal::WrongKind);
+        }
+        let Value::Node(node) = parent.value else {
+            return Err(Refusal::WrongKind);
+        };
+        if !parent.key.above(self.key) {
+            return Err(Refusal::NoAncestor);
+        }
+        let at = Parent {
+            slot: p,
+            origin: parent.origin,
+            key: parent.key,
+            node,
+            right: parent.key.toward(self.key),
+        };
+        self.add_link(at, cache)
     }
 }
 
@@ -150,11 +145,7 @@ pub fn add_tree(
     if count <= slot || count <= p {
         return Err(Refusal::NoSlot);
     }
-    match slot_of(cache, slot) {
-        Slot::Free => {}
-        Slot::Bad => return Err(Refusal::NotWell),
-        Slot::Full { .. } => return Err(Refusal::SlotTaken),
-    }
+    free_in(cache, slot)?;
     let record = Record {
         slot,
         key: k,

@@ -7,9 +7,9 @@ use Rattle.value.specs.declared.Value.{Value}
 use Rattle.slot.specs.Slots.{slot_length}
 use Rattle.slot.specs.declared.Slot.TheVariants.{Full}
 use Rattle.state.specs.declared.State.{State}
+use Rattle.rules.specs.declared.Record.{Record}
 use Rattle.rules.specs.Outcomes.{refuses}
 use Rattle.rules.specs.Answers.{get, get_slot, absent, absent_slot, put, put_into}
-use Rattle.answers.specs.declared.Record.{Record}
 
 -- slot s is one of the cache's, and each of the three goes by this record in it
 abbrev pub IsRecordIn : ℕ → List ℕ → Record → Type 0

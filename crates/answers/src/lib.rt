@@ -10,19 +10,12 @@ ghost use Rattle.rules.specs.Answers.{get, absent, put};
 ghost use Rattle.answers.specs.Parts.{IsRecordIn, IsRefusedAt};
 
 use key::Key;
-use slot::{SLOT_BYTES, Slot, set_slot, slot_of};
+use rules::Record;
+use slot::{SLOT_BYTES, set_slot};
 use state::State;
 use tree::{is_node, side_of};
 use value::{Side, Value};
 use verdict::Refusal;
-
-// A record of the cache: where it came from, its key and its value.
-#[derive(Clone, Copy)]
-struct Record {
-    origin: u8,
-    key: Key,
-    value: Value,
-}
 
 // 4, 6: the record in slot s.
 #[tactic(auto, unfolding(rules::specs::Answers::get, rules::specs::Answers::absent, rules::specs::Answers::put))]
@@ -33,11 +26,7 @@ fn record_in(s: u16, cache: &[u8]) -> Result<Record, Refusal>
     if cache.len() / SLOT_BYTES <= i {
         return Err(Refusal::NoSlot);
     }
-    match slot_of(cache, i) {
-        Slot::Free => Err(Refusal::SlotEmpty),
-        Slot::Bad => Err(Refusal::NotWell),
-        Slot::Full { origin, key, value } => Ok(Record { origin, key, value }),
-    }
+    rules::record_in(cache, i)
 }
 
 /// 6: s, key, value. The slot's value equals the given one.

@@ -25,17 +25,14 @@ pub fn well_length(cache: &[u8]) -> bool
     ensures { result ≡ well_length cache.now }
 {
     let n = cache.len();
-    FEWEST_SLOTS * SLOT_BYTES <= n && n <= MOST_SLOTS * SLOT_BYTES && n % SLOT_BYTES == 0
+    (FEWEST_SLOTS * SLOT_BYTES..=MOST_SLOTS * SLOT_BYTES).contains(&n) && n % SLOT_BYTES == 0
 }
 
 #[tactic(auto, unfolding(key::specs::Keys::key_eq))]
 fn has(s: Slot, k: Key) -> bool
     ensures { result ≡ slot_has s k }
 {
-    match s {
-        Slot::Free | Slot::Bad => false,
-        Slot::Full { key, .. } => key == k,
-    }
+    matches!(s, Slot::Full { key, .. } if key == k)
 }
 
 // Whether a slot's bytes hold a key. Most slots do not, and the first word of their key says so at once. Inner.

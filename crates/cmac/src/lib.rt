@@ -6,7 +6,7 @@
 ghost use Rattle.std.specs.Prelude.{◌≡◌};
 ghost use Rattle.aes.specs.Aes.{block_bytes};
 ghost use Rattle.cmac.specs.Cmac.{cmac};
-ghost use Rattle.cmac.specs.Tags.{tag_words, tag_xor, tag_eq, tag_with, tag_of, tag_answer};
+ghost use Rattle.cmac.specs.Tags.{tag_words, tag_xor, tag_with, tag_of, tag_answer};
 
 use std::ops::BitXor;
 use verdict::Refusal;

@@ -13,8 +13,8 @@ ghost use Rattle.deferred_adds.specs.Parts.{tally_of, added_to};
 use cmac::Tag;
 use key::Key;
 use message::{Epoch, Message, Time};
-use rules::Named;
-use slot::{ORIGIN_DEFERRED, SLOT_BYTES, Slot, set_slot, slot_of};
+use rules::{Named, free_in};
+use slot::{ORIGIN_DEFERRED, SLOT_BYTES, set_slot};
 use state::{COUNT_LIMIT, Keyed, State, Tally};
 use tree::fits;
 use value::Value;
@@ -105,11 +105,7 @@ pub fn add_deferred(
     if cache.len() / SLOT_BYTES <= s {
         return Err(Refusal::NoSlot);
     }
-    match slot_of(cache, s) {
-        Slot::Free => {}
-        Slot::Bad => return Err(Refusal::NotWell),
-        Slot::Full { .. } => return Err(Refusal::SlotTaken),
-    }
+    free_in(cache, s)?;
     if cache::held(cache, k) {
         return Err(Refusal::KeyHeld);
     }

@@ -8,8 +8,8 @@ ghost use Rattle.state.specs.States.{clock_limit};
 ghost use Rattle.rules.specs.Outcomes.{outcome, done};
 ghost use Rattle.rules.specs.Evicts.{evict_deferred};
 
-use rules::ROOT_SLOT;
-use slot::{ORIGIN_DEFERRED, SLOT_BYTES, Slot, free_slot, slot_of};
+use rules::{ROOT_SLOT, record_in};
+use slot::{ORIGIN_DEFERRED, SLOT_BYTES, free_slot};
 use state::{COUNT_LIMIT, Keyed, State};
 use verdict::Refusal;
 
@@ -27,19 +27,14 @@ pub fn evict_deferred(keyed: &Keyed, s: u16, cache: &mut [u8]) -> Result<State, 
     if i == ROOT_SLOT {
         return Err(Refusal::RootSlot);
     }
-    match slot_of(cache, i) {
-        Slot::Free => Err(Refusal::SlotEmpty),
-        Slot::Bad => Err(Refusal::NotWell),
-        Slot::Full { origin, key, value } => {
-            if origin != ORIGIN_DEFERRED {
-                return Err(Refusal::WrongOrigin);
-            }
-            if COUNT_LIMIT <= st.tally.evicts {
-                return Err(Refusal::CountFull);
-            }
-            let next = st.evicted_state(keyed.tag_of(st.evict_message(key, value)));
-            free_slot(cache, i);
-            Ok(next)
-        }
+    let record = record_in(cache, i)?;
+    if record.origin != ORIGIN_DEFERRED {
+        return Err(Refusal::WrongOrigin);
     }
+    if COUNT_LIMIT <= st.tally.evicts {
+        return Err(Refusal::CountFull);
+    }
+    let next = st.evicted_state(keyed.tag_of(st.evict_message(record.key, record.value)));
+    free_slot(cache, i);
+    Ok(next)
 }

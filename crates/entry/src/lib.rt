@@ -2,7 +2,7 @@
 //! Promises upward: 3 or 2 or the entry with its whole length, and the body as a part of the log itself.
 #![tactic(auto)]
 
-ghost use Rattle.std.specs.Prelude.{◌≡◌, ◌+◌, ◌≤◌, ◌<◌, length};
+ghost use Rattle.std.specs.Prelude.{◌≡◌, ◌+◌, ◌≤◌, ◌<◌, length, Err};
 ghost use Rattle.words.specs.Numbers.{number_at};
 ghost use Rattle.words.specs.Splices.{part};
 ghost use Rattle.value.specs.Values.{value_at};
@@ -121,6 +121,18 @@ pub struct Head {
 pub enum Unread {
     Short,
     Malformed { used: usize },
+}
+
+impl Unread {
+    /// How many bytes are used.
+    pub fn used(self) -> usize
+        ensures { result ≡ reading_used (Err self) }
+    {
+        match self {
+            Self::Short => 0,
+            Self::Malformed { used } => used,
+        }
+    }
 }
 
 impl From<Unread> for Refusal {

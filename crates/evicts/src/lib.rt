@@ -12,9 +12,8 @@ ghost use Rattle.state.specs.States.{clock_limit};
 ghost use Rattle.rules.specs.Outcomes.{outcome, done};
 ghost use Rattle.rules.specs.Evicts.{unlinked, to_deferred, evict_link, evict_under, evict_by};
 
-use key::Key;
-use rules::{Parent, ROOT_SLOT};
-use slot::{ORIGIN_TREE, SLOT_BYTES, Slot, free_slot, slot_of};
+use rules::{Parent, ROOT_SLOT, Record, record_in};
+use slot::{ORIGIN_TREE, SLOT_BYTES, free_slot};
 use state::{COUNT_LIMIT, Keyed, State};
 use value::{Digest, Side, Value};
 use verdict::Refusal;
@@ -23,9 +22,7 @@ use verdict::Refusal;
 #[derive(Clone, Copy)]
 struct Leaving {
     slot: usize,
-    origin: u8,
-    key: Key,
-    value: Value,
+    held: Record,
 }
 
 impl Leaving {
@@ -42,11 +39,11 @@ impl Leaving {
     // 3: the parent's link gets the digest of the value and mark 0. Either origin will do. Inner.
     fn to_tree(self, at: Parent, cache: &mut [u8])
         requires { ((self.slot + 1) * slot_length ≤ length cache.old) × ((at.slot + 1) * slot_length ≤ length cache.old) }
-        ensures { cache.new ≡ unlinked self.slot at.slot at.origin at.key at.node at.right (Link self.key (digest_of self.value) false) cache.old }
+        ensures { cache.new ≡ unlinked self.slot at.slot at.origin at.key at.node at.right (Link self.held.key (digest_of self.held.value) false) cache.old }
     {
         let link = Side::Link {
-            key: self.key,
-            digest: hash::digest_of(self.value),
+            key: self.held.key,
+            digest: hash::digest_of(self.held.value),
             mark: false,
         };
         self.unlink(at, link, cache);
@@ -63,22 +60,22 @@ impl Leaving {
         cache: &mut [u8],
     ) -> Result<State, Refusal>
         requires { (keyed.now.state.clock.0 ≤ clock_limit) × ((self.slot + 1) * slot_length ≤ length cache.old) × ((at.slot + 1) * slot_length ≤ length cache.old) }
-        ensures { outcome (done result keyed.now.state) cache.new ≡ to_deferred self.slot at.slot self.origin self.key self.value at.origin at.key at.node at.right keyed.now.state cache.old digest }
+        ensures { outcome (done result keyed.now.state) cache.new ≡ to_deferred self.slot at.slot self.held.origin self.held.key self.held.value at.origin at.key at.node at.right keyed.now.state cache.old digest }
     {
         let st = keyed.state;
-        if self.origin != ORIGIN_TREE {
+        if self.held.origin != ORIGIN_TREE {
             return Err(Refusal::WrongOrigin);
         }
         if COUNT_LIMIT <= st.tally.evicts {
             return Err(Refusal::CountFull);
         }
         let link = Side::Link {
-            key: self.key,
+            key: self.held.key,
             digest,
             mark: true,
         };
         self.unlink(at, link, cache);
-        Ok(st.evicted_state(keyed.tag_of(st.evict_message(self.key, self.value))))
+        Ok(st.evicted_state(keyed.tag_of(st.evict_message(self.held.key, self.held.value))))
     }
 
     // 11: the parent's side toward the key is a link that names it. Then 3, or 5 where deferring. Inner.
@@ -91,12 +88,12 @@ impl Leaving {
         cache: &mut [u8],
     ) -> Result<State, Refusal>
         requires { (keyed.now.state.clock.0 ≤ clock_limit) × ((self.slot + 1) * slot_length ≤ length cache.old) × ((at.slot + 1) * slot_length ≤ length cache.old) }
-        ensures { outcome (done result keyed.now.state) cache.new ≡ evict_link deferring self.slot at.slot self.origin self.key self.value at.origin at.key at.node at.right keyed.now.state cache.old }
+        ensures { outcome (done result keyed.now.state) cache.new ≡ evict_link deferring self.slot at.slot self.held.origin self.held.key self.held.value at.origin at.key at.node at.right keyed.now.state cache.old }
     {
         let Side::Link { key, digest, .. } = at.side() else {
             return Err(Refusal::NoLink);
         };
-        if key != self.key {
+        if key != self.held.key {
             return Err(Refusal::NoLink);
         }
         if deferring {
@@ -116,28 +113,23 @@ impl Leaving {
         cache: &mut [u8],
     ) -> Result<State, Refusal>
         requires { (keyed.now.state.clock.0 ≤ clock_limit) × ((self.slot + 1) * slot_length ≤ length cache.old) × ((p + 1) * slot_length ≤ length cache.old) }
-        ensures { outcome (done result keyed.now.state) cache.new ≡ evict_under deferring self.slot p self.origin self.key self.value keyed.now.state cache.old }
+        ensures { outcome (done result keyed.now.state) cache.new ≡ evict_under deferring self.slot p self.held.origin self.held.key self.held.value keyed.now.state cache.old }
     {
-        match slot_of(cache, p) {
-            Slot::Free => Err(Refusal::SlotEmpty),
-            Slot::Bad => Err(Refusal::NotWell),
-            Slot::Full { origin, key, value } => {
-                let Value::Node(node) = value else {
-                    return Err(Refusal::WrongKind);
-                };
-                if !key.above(self.key) {
-                    return Err(Refusal::NoAncestor);
-                }
-                let at = Parent {
-                    slot: p,
-                    origin,
-                    key,
-                    node,
-                    right: key.toward(self.key),
-                };
-                self.evict_link(keyed, deferring, at, cache)
-            }
+        let parent = record_in(cache, p)?;
+        let Value::Node(node) = parent.value else {
+            return Err(Refusal::WrongKind);
+        };
+        if !parent.key.above(self.held.key) {
+            return Err(Refusal::NoAncestor);
         }
+        let at = Parent {
+            slot: p,
+            origin: parent.origin,
+            key: parent.key,
+            node,
+            right: parent.key.toward(self.held.key),
+        };
+        self.evict_link(keyed, deferring, at, cache)
     }
 }
 
@@ -162,17 +154,7 @@ pub fn evict_by(
     if i == ROOT_SLOT {
         return Err(Refusal::RootSlot);
     }
-    match slot_of(cache, i) {
-        Slot::Free => Err(Refusal::SlotEmpty),
-        Slot::Bad => Err(Refusal::NotWell),
-        Slot::Full { origin, key, value } => {
-            let leaving = Leaving {
-                slot: i,
-                origin,
-                key,
-                value,
-            };
-            leaving.evict_under(keyed, deferring, j, cache)
-        }
-    }
+    let held = record_in(cache, i)?;
+    let leaving = Leaving { slot: i, held };
+    leaving.evict_under(keyed, deferring, j, cache)
 }

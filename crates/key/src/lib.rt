@@ -4,7 +4,7 @@
 
 ghost use Rattle.std.specs.Prelude.{◌≡◌, ◌+◌, ◌-◌, ◌%◌, ◌^◌, ◌≤◌, ◌<◌, length, [], ◌∷◌};
 ghost use Rattle.words.specs.Splices.{splice};
-ghost use Rattle.key.specs.Keys.{key_at, key_bytes, data_at, data_bytes, key_eq, above, toward, bit_at, well_key, root_key, data_key, is_data, clean, same_top};
+ghost use Rattle.key.specs.Keys.{key_at, key_bytes, data_at, data_bytes, above, toward, bit_at, well_key, root_key, data_key, is_data, clean, same_top};
 
 use words::{Four, four_at, put_four, put_number, read_number};
 
@@ -67,7 +67,7 @@ impl Key {
     pub const WIDEST: u16 = 256;
 
     /// The key of no bits.
-    pub const ROOT: Key = Key {
+    pub const ROOT: Self = Self {
         len: 0,
         w0: 0,
         w1: 0,
@@ -78,14 +78,14 @@ impl Key {
     pub fn root() -> Self
         ensures { result ≡ root_key }
     {
-        Key::ROOT
+        Self::ROOT
     }
 
     pub fn data(w0: u64, w1: u64, w2: u64, w3: u64) -> Self
         ensures { result ≡ data_key w0 w1 w2 w3 }
     {
-        Key {
-            len: Key::WIDEST,
+        Self {
+            len: Self::WIDEST,
             w0,
             w1,
             w2,
@@ -96,7 +96,7 @@ impl Key {
     pub fn is_data(self) -> bool
         ensures { result ≡ is_data self }
     {
-        self.len == Key::WIDEST
+        self.len == Self::WIDEST
     }
 
     #[tactic(auto, unfolding(crate::specs::Keys::well_key))]
@@ -104,7 +104,7 @@ impl Key {
         ensures { result ≡ well_key self }
     {
         let [n0, n1, n2, n3] = self.bits_from_each_word();
-        self.len <= Key::WIDEST
+        self.len <= Self::WIDEST
             && clean(n0, self.w0)
             && clean(n1, self.w1)
             && clean(n2, self.w2)
@@ -113,7 +113,7 @@ impl Key {
 
     /// Whether the key is a proper ancestor of another.
     #[tactic(auto, unfolding(crate::specs::Keys::above))]
-    pub fn above(self, o: Key) -> bool
+    pub fn above(self, o: Self) -> bool
         ensures { result ≡ above self o }
     {
         let [n0, n1, n2, n3] = self.bits_from_each_word();
@@ -142,21 +142,17 @@ impl Key {
     pub fn bit(self, i: u64) -> u64
         ensures { result ≡ bit_at self i }
     {
-        if i < ONE_WORD {
-            return (self.w0 >> (ONE_WORD - 1 - i)) % 2;
+        match i {
+            0..ONE_WORD => (self.w0 >> (ONE_WORD - 1 - i)) % 2,
+            ONE_WORD..TWO_WORDS => (self.w1 >> (TWO_WORDS - 1 - i)) % 2,
+            TWO_WORDS..THREE_WORDS => (self.w2 >> (THREE_WORDS - 1 - i)) % 2,
+            _ => (self.w3 >> (u64::from(Self::WIDEST) - 1).saturating_sub(i)) % 2,
         }
-        if i < TWO_WORDS {
-            return (self.w1 >> (TWO_WORDS - 1 - i)) % 2;
-        }
-        if i < THREE_WORDS {
-            return (self.w2 >> (THREE_WORDS - 1 - i)) % 2;
-        }
-        (self.w3 >> (u64::from(Key::WIDEST) - 1).saturating_sub(i)) % 2
     }
 
     /// The side of this key that a longer one lies on: left is false, right is true.
     #[tactic(auto, unfolding(crate::specs::Keys::toward))]
-    pub fn toward(self, o: Key) -> bool
+    pub fn toward(self, o: Self) -> bool
         ensures { result ≡ toward self o }
     {
         o.bit(u64::from(self.len)) == 1
@@ -164,18 +160,12 @@ impl Key {
 
     /// A data key from its 32 bytes. Inner.
     #[tactic(auto, unfolding(crate::specs::Keys::data_at, words::specs::Numbers::four_at))]
-    pub fn read_data(s: &[u8], at: usize) -> Key
+    pub fn read_data(s: &[u8], at: usize) -> Self
         requires { at + 32 ≤ length s.now }
         ensures { result ≡ data_at s.now at }
     {
         let x = four_at(s, at);
-        Key {
-            len: Key::WIDEST,
-            w0: x.first,
-            w1: x.second,
-            w2: x.third,
-            w3: x.fourth,
-        }
+        Self::data(x.first, x.second, x.third, x.fourth)
     }
 
     /// Inner.
@@ -184,9 +174,11 @@ impl Key {
         requires { at + 34 ≤ length s.now }
         ensures { result ≡ key_at s.now at }
     {
-        let mut k = Key::read_data(s, at + LENGTH_BYTES);
-        k.len = read_number::<2>(s, at) as u16;
-        if k.well() { Some(k) } else { None }
+        let k = Self {
+            len: read_number::<2>(s, at) as u16,
+            ..Self::read_data(s, at + LENGTH_BYTES)
+        };
+        k.well().then_some(k)
     }
 
     /// The 32 bytes of a data key, its words alone. Inner.

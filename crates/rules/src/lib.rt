@@ -1,17 +1,22 @@
 //! The rules: what each entry, a step and a run come to, for any log, state and cache, as definitions (specs/) that the verifier's code, its
-//! reader and the theorem about settled answers share. The declared types are those that the code returns.
-//! Promises upward: document 01's examples M1 to M12 follow from the definitions.
+//! reader and the theorem about settled answers share. Here are what a run returns, and what the entries' crates share.
+//! Promises upward: document 01's examples M1 to M12 follow from the definitions; what is found in a slot is what stands there, and a node's
+//! side is changed in its own slot alone.
 #![tactic(auto)]
 
-ghost use Rattle.std.specs.Prelude.{◌≡◌, ◌+◌, ◌*◌, ◌≤◌, length};
+ghost use Rattle.std.specs.Prelude.{◌≡◌, ◌+◌, ◌*◌, ◌≤◌, length, MatchResult};
 ghost use Rattle.value.specs.Values.{side_of, with_side};
 ghost use Rattle.value.specs.declared.Value.TheVariants.{Node};
 ghost use Rattle.slot.specs.Slots.{slot_length};
-ghost use Rattle.cache.specs.Caches.{put_slot};
+ghost use Rattle.slot.specs.declared.Slot.TheVariants.{Free, Full};
+ghost use Rattle.cache.specs.Caches.{slot_in, put_slot};
+ghost use Rattle.rules.specs.Records.{IsNoRecord, IsNotFree};
 
 use key::Key;
+use slot::{Slot, set_slot, slot_of};
 use state::{State, Tally};
 use value::{Side, Value};
+use verdict::Refusal;
 
 /// The root's slot.
 pub const ROOT_SLOT: usize = 0;
@@ -57,6 +62,38 @@ impl Parent {
         ensures { cache.new ≡ put_slot cache.old self.slot self.origin self.key (Node (with_side self.node self.right link)) }
     {
         let node = tree::with_side(self.node, self.right, link);
-        slot::set_slot(cache, self.slot, self.origin, self.key, Value::Node(node));
+        set_slot(cache, self.slot, self.origin, self.key, Value::Node(node));
+    }
+}
+
+/// A record of the cache: where it came from, its key and its value.
+#[derive(Clone, Copy, Debug, PartialEq, Eq)]
+pub struct Record {
+    pub origin: u8,
+    pub key: Key,
+    pub value: Value,
+}
+
+/// 6: the record in slot i. Inner.
+pub fn record_in(cache: &[u8], i: usize) -> Result<Record, Refusal>
+    requires { (i + 1) * slot_length ≤ length cache.now }
+    ensures { MatchResult result (λ r. slot_in cache.now i ≡ Full r.origin r.key r.value) (λ e. IsNoRecord (slot_in cache.now i) e) }
+{
+    match slot_of(cache, i) {
+        Slot::Free => Err(Refusal::SlotEmpty),
+        Slot::Bad => Err(Refusal::NotWell),
+        Slot::Full { origin, key, value } => Ok(Record { origin, key, value }),
+    }
+}
+
+/// 5: whether slot i is free to be taken. Inner.
+pub fn free_in(cache: &[u8], i: usize) -> Result<(), Refusal>
+    requires { (i + 1) * slot_length ≤ length cache.now }
+    ensures { MatchResult result (λ u. slot_in cache.now i ≡ Free) (λ e. IsNotFree (slot_in cache.now i) e) }
+{
+    match slot_of(cache, i) {
+        Slot::Free => Ok(()),
+        Slot::Bad => Err(Refusal::NotWell),
+        Slot::Full { .. } => Err(Refusal::SlotTaken),
     }
 }

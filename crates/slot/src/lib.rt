@@ -75,12 +75,8 @@ pub fn set_slot(cache: &mut [u8], i: usize, origin: u8, k: Key, v: Value)
     requires { (i + 1) * slot_length ≤ length cache.old }
     ensures { cache.new ≡ splice cache.old (i * slot_length) (slot_bytes origin k v) }
 {
-    write_slot(
-        &mut cache[i * SLOT_BYTES..i * SLOT_BYTES + SLOT_BYTES],
-        origin,
-        k,
-        v,
-    );
+    let at = i * SLOT_BYTES;
+    write_slot(&mut cache[at..at + SLOT_BYTES], origin, k, v);
 }
 
 /// Slot i of a cache becomes free. Inner.
@@ -89,7 +85,8 @@ pub fn free_slot(cache: &mut [u8], i: usize)
     requires { (i + 1) * slot_length ≤ length cache.old }
     ensures { cache.new ≡ splice cache.old (i * slot_length) (zeros slot_length) }
 {
-    clear(&mut cache[i * SLOT_BYTES..i * SLOT_BYTES + SLOT_BYTES]);
+    let at = i * SLOT_BYTES;
+    clear(&mut cache[at..at + SLOT_BYTES]);
 }
 
 /// What 192 bytes hold. Inner.
@@ -126,5 +123,6 @@ pub fn slot_of(cache: &[u8], i: usize) -> Slot
     requires { (i + 1) * slot_length ≤ length cache.now }
     ensures { result ≡ slot_at (part cache.now (i * slot_length) slot_length) }
 {
-    read_slot(&cache[i * SLOT_BYTES..i * SLOT_BYTES + SLOT_BYTES])
+    let at = i * SLOT_BYTES;
+    read_slot(&cache[at..at + SLOT_BYTES])
 }

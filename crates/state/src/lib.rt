@@ -53,7 +53,7 @@ pub struct Keyed {
 
 impl Tally {
     /// Of no messages.
-    pub const NONE: Tally = Tally {
+    pub const NONE: Self = Self {
         adds: 0,
         evicts: 0,
         addsum: Tag::ZERO,
@@ -67,11 +67,11 @@ impl Tally {
     }
 
     // A message more in the adds. Inner.
-    fn added(self, g: Tag) -> Tally
+    fn added(self, g: Tag) -> Self
         requires { self.adds < count_limit }
         ensures { result ≡ tally_add self g }
     {
-        Tally {
+        Self {
             adds: self.adds + 1,
             addsum: self.addsum ^ g,
             ..self
@@ -79,11 +79,11 @@ impl Tally {
     }
 
     // A message more in the evicts. Inner.
-    fn evicted(self, g: Tag) -> Tally
+    fn evicted(self, g: Tag) -> Self
         requires { self.evicts < count_limit }
         ensures { result ≡ tally_evict self g }
     {
-        Tally {
+        Self {
             evicts: self.evicts + 1,
             evictsum: self.evictsum ^ g,
             ..self
@@ -117,8 +117,7 @@ impl State {
         ensures { result ≡ well_state self }
     {
         let e = self.epoch.0;
-        FIRST_EPOCH <= e
-            && e <= EPOCH_LIMIT
+        (FIRST_EPOCH..=EPOCH_LIMIT).contains(&e)
             && well_old(e, self.old)
             && self.tally.well()
             && well_clock(self.clock.0, e, self.tally.evicts)
@@ -137,11 +136,11 @@ impl State {
 
     /// Entry 2, into the current epoch. Inner.
     #[tactic(auto, unfolding(crate::specs::States::added_current))]
-    pub fn added_current(self, g: Tag) -> State
+    pub fn added_current(self, g: Tag) -> Self
         requires { self.tally.adds < count_limit }
         ensures { result ≡ added_current self g }
     {
-        State {
+        Self {
             tally: self.tally.added(g),
             ..self
         }
@@ -149,11 +148,11 @@ impl State {
 
     /// Entry 2, into the old epoch, whose tally the caller has in hand. Inner.
     #[tactic(auto, unfolding(crate::specs::States::added_old))]
-    pub fn added_old(self, t: Tally, g: Tag) -> State
+    pub fn added_old(self, t: Tally, g: Tag) -> Self
         requires { t.adds < count_limit }
         ensures { result ≡ added_old self t g }
     {
-        State {
+        Self {
             old: Some(t.added(g)),
             ..self
         }
@@ -161,11 +160,11 @@ impl State {
 
     /// Entries 4 and 5: the clock rises by one, and the message goes into the current epoch's evicts. Inner.
     #[tactic(auto, unfolding(crate::specs::States::evicted_state))]
-    pub fn evicted_state(self, g: Tag) -> State
+    pub fn evicted_state(self, g: Tag) -> Self
         requires { (self.clock.0 ≤ clock_limit) × (self.tally.evicts < count_limit) }
         ensures { result ≡ evicted_state self g }
     {
-        State {
+        Self {
             clock: Time(self.clock.0 + 1),
             tally: self.tally.evicted(g),
             ..self
@@ -188,11 +187,11 @@ impl State {
 
     /// Entry 9: the current epoch becomes the old one; a new one opens with zeros. Inner.
     #[tactic(auto, unfolding(crate::specs::States::advanced_state))]
-    pub fn advanced(self) -> State
+    pub fn advanced(self) -> Self
         requires { self.epoch.0 < epoch_limit }
         ensures { result ≡ advanced_state self }
     {
-        State {
+        Self {
             epoch: Epoch(self.epoch.0 + 1),
             tally: Tally::NONE,
             old: Some(self.tally),
@@ -202,17 +201,17 @@ impl State {
 
     /// Entry 10: the old epoch is closed and settled.
     #[tactic(auto, unfolding(crate::specs::States::closed_state))]
-    pub fn closed(self) -> State
+    pub fn closed(self) -> Self
         ensures { result ≡ closed_state self }
     {
-        State { old: None, ..self }
+        Self { old: None, ..self }
     }
 
     #[tactic(auto, unfolding(crate::specs::States::fresh_state))]
-    fn fresh(key: &[u8; hash::SET_KEY_BYTES]) -> State
+    fn fresh(key: &[u8; hash::SET_KEY_BYTES]) -> Self
         ensures { result ≡ fresh_state key.now }
     {
-        State {
+        Self {
             set: hash::set_key(key),
             clock: Time(0),
             epoch: Epoch(FIRST_EPOCH),
@@ -223,21 +222,21 @@ impl State {
 }
 
 impl Keyed {
-    pub fn new(state: State) -> Keyed
+    pub fn new(state: State) -> Self
         ensures { result.state ≡ state }
     {
-        Keyed {
+        Self {
             state,
             expanded: hash::expanded(state.set),
         }
     }
 
     /// Another state under the same set key. Inner.
-    pub fn with(&self, state: State) -> Keyed
+    pub fn with(&self, state: State) -> Self
         requires { state.set ≡ self.now.state.set }
         ensures { result.state ≡ state }
     {
-        Keyed {
+        Self {
             state,
             expanded: self.expanded,
         }

@@ -1,2 +1,3 @@
 -- A step keeps what is well formed.
 pub mod Kept
+pub mod Unread

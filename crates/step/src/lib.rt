@@ -10,7 +10,7 @@ ghost use Rattle.rules.specs.Steps.{entry_step, stepped, step_well, step};
 ghost use Rattle.step.specs.Progress.{progress};
 ghost use Rattle.state.specs.declared.State.{State};
 
-use entry::{Entry, Unread};
+use entry::Entry;
 use state::{Keyed, State};
 use verdict::Refusal;
 
@@ -23,10 +23,10 @@ pub struct Progress {
 
 impl Progress {
     // Before any entry is read: no bytes are used.
-    fn refused(refusal: Refusal) -> Progress
+    fn refused(refusal: Refusal) -> Self
         ensures { result ≡ record { next = Err refusal; used = 0 } }
     {
-        Progress {
+        Self {
             next: Err(refusal),
             used: 0,
         }
@@ -81,16 +81,15 @@ fn apply(keyed: &Keyed, e: Entry, cache: &mut [u8]) -> Result<State, Refusal>
 }
 
 /// A step on a state and a cache that are well formed: 3, 2, and then the entry. Inner.
-#[tactic(auto, unfolding(rules::specs::Steps::step_well), using(state::proofs::Laws::well_clock))]
+#[tactic(auto, unfolding(rules::specs::Steps::step_well), using(state::proofs::Laws::well_clock, crate::proofs::Unread::step_unread))]
 pub fn step_well(keyed: &Keyed, log: &[u8], cache: &mut [u8]) -> Progress
     requires { well_state keyed.now.state ≡ true }
     ensures { stepped (progress result keyed.now.state) cache.new ≡ step_well log.now keyed.now.state cache.old }
 {
     match entry::read(log) {
-        Err(Unread::Short) => Progress::refused(Refusal::Short),
-        Err(Unread::Malformed { used }) => Progress {
-            next: Err(Refusal::Malformed),
-            used,
+        Err(unread) => Progress {
+            next: Err(unread.into()),
+            used: unread.used(),
         },
         Ok((entry, used)) => Progress {
             next: apply(keyed, entry, cache),

@@ -69,8 +69,8 @@ pub fn put_line(out: &mut [u8], at: usize, n: u64, tag: u8, verdict: u32, epoch:
     ensures { (result ≡ at + length (line_text n tag verdict epoch)) × (out.new ≡ splice out.old at (line_text n tag verdict epoch)) }
 {
     let a = put_field(out, at, n, SPACE);
-    let b = put_field(out, a, tag as u64, SPACE);
-    let c = put_field(out, b, verdict as u64, SPACE);
+    let b = put_field(out, a, u64::from(tag), SPACE);
+    let c = put_field(out, b, u64::from(verdict), SPACE);
     put_field(out, c, epoch, LINE_FEED)
 }
 

@@ -1,2 +1,3 @@
 -- Laws of the exported calls.
 pub mod Laws
+pub mod Unread

@@ -12,7 +12,6 @@ ghost use Rattle.term.specs.Terms.{term_key, matches};
 ghost use Rattle.verdict.specs.Verdicts.{told};
 ghost use Rattle.thiraduan.specs.Answers.{flag, handed_over, flat_read, flat_write, answer_epoch, flat_step, flat_run, is_settled, flat_settled};
 
-use entry::Unread;
 use hash::SetKey;
 use message::{Epoch, Time};
 use state::{State, Tally};
@@ -102,7 +101,7 @@ pub fn thiraduan_encrypt(expanded: &[u8; 176], block: &[u8; 16], out: &mut [u8; 
 
 /// The entry at the start of log: 0, 2 or 3, and its whole length, or 0 with 3, to used. With 0 its tag, s, p, epoch and time go to numbers, its key to key,
 /// and its value, and then zeros, to value; what it does not have is 0, the root key or the value none. With 2 and 3 these are untouched.
-#[tactic(auto, unfolding(crate::specs::Answers::flat_read))]
+#[tactic(auto, using(crate::proofs::Unread::flat_unread), unfolding(crate::specs::Answers::flat_read))]
 pub fn thiraduan_read(
     log: &[u8],
     used: &mut u64,
@@ -117,13 +116,9 @@ pub fn thiraduan_read(
     ensures value_after { value.new ≡ (flat_read log.now numbers.old key.old value.old).value }
 {
     match entry::read(log) {
-        Err(Unread::Short) => {
-            *used = 0;
-            u32::from(Refusal::Short)
-        }
-        Err(Unread::Malformed { used: n }) => {
-            *used = n as u64;
-            u32::from(Refusal::Malformed)
+        Err(unread) => {
+            *used = unread.used() as u64;
+            u32::from(Refusal::from(unread))
         }
         Ok((e, n)) => {
             let f = fields::fields_of(e);

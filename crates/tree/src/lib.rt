@@ -1,9 +1,9 @@
 //! The tests that the entries' checks make on values and nodes, and a node with another side.
-//! Promises upward: each is its definition of `value`; two values are the same exactly where they are equal.
+//! Promises upward: each is its definition of `value`.
 #![tactic(auto)]
 
 ghost use Rattle.std.specs.Prelude.{◌≡◌};
-ghost use Rattle.value.specs.Values.{is_node, fits, bare_node, is_first, side_eq, value_eq, side_of, with_side};
+ghost use Rattle.value.specs.Values.{is_node, fits, bare_node, is_first, side_of, with_side};
 
 use key::Key;
 use value::{Node, Side, Value};

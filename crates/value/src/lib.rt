@@ -5,7 +5,7 @@
 
 ghost use Rattle.std.specs.Prelude.{◌≡◌, ◌+◌, ◌≤◌, length};
 ghost use Rattle.words.specs.Splices.{splice};
-ghost use Rattle.value.specs.Values.{digest_at, digest_bytes, digest_eq, digest_of_four, four_of_digest, link_at, link_bytes, side_at, side_end, side_bytes, node_at, node_bytes, fingerprint_at, fingerprint_bytes, value_at, value_end, value_bytes, well_side, well_value};
+ghost use Rattle.value.specs.Values.{digest_at, digest_bytes, digest_of_four, four_of_digest, link_at, link_bytes, side_at, side_end, side_bytes, node_at, node_bytes, fingerprint_at, fingerprint_bytes, value_at, value_end, value_bytes, well_side, well_value};
 
 use key::Key;
 use words::{Four, four_at, put_four, put_u8};
@@ -76,7 +76,7 @@ impl From<Four> for Digest {
     ghost from_gives = { λ x d. d ≡ digest_of_four x };
 
     fn from(x: Four) -> Self {
-        Digest {
+        Self {
             d0: x.first,
             d1: x.second,
             d2: x.third,
@@ -101,7 +101,7 @@ impl From<Digest> for Four {
 impl Digest {
     /// Inner.
     #[tactic(auto, unfolding(crate::specs::Values::digest_at, words::specs::Numbers::four_at))]
-    pub fn read(s: &[u8], at: usize) -> Digest
+    pub fn read(s: &[u8], at: usize) -> Self
         requires { at + 32 ≤ length s.now }
         ensures { result ≡ digest_at s.now at }
     {

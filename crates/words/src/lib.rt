@@ -1,10 +1,9 @@
-//! Numbers in lent bytes, high byte first, and the small sums and tests that every layer makes.
+//! Numbers in lent bytes, high byte first.
 //! Promises upward: what is read is the number that the bytes make, and what is written replaces exactly its bytes. The readers and writers
 //! ask that the bytes are there: they are inner, for the crates above.
 #![tactic(auto)]
 
 ghost use Rattle.std.specs.Prelude.{◌≡◌, [], ◌∷◌, ◌+◌, ◌*◌, ◌-◌, ◌^◌, ◌≤◌, ◌<◌, length};
-ghost use Rattle.words.specs.Choice.{both, no};
 ghost use Rattle.words.specs.Numbers.{number_at, bytes_of, four_at, four_words};
 ghost use Rattle.words.specs.Splices.{splice};
 

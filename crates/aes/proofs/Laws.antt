@@ -3,11 +3,10 @@ use mathlib.Core.Path.{◌≡◌, refl, ap, ap₂, sym, ◌∙◌}
 use mathlib.Core.Bool.{Bool}
 use mathlib.Core.List.{List, [], ◌∷◌, ◌++◌, append_assoc, append-nil}
 use Prim.Native.Nat.{ℕ, zero, suc, ◌+◌, ◌-◌, ◌*◌, ◌/◌, ◌%◌, ◌^◌, ◌≤◌, ◌<◌, zero-le}
-use native.Mathlib.Nat.{add-zero}
 use native.Mathlib.Numerals.{add-one}
 use native.Mathlib.Omega.{arith}
 use borrow.Author.Tests.{eq-eqb, ne_eqb}
-use lib.Bits.{bit_xor, bit_or, xor_block, xor_comm, or_self, or_shifted, or_shifted_r}
+use lib.Bits.{bit_xor, bit_or, xor_block, xor_comm, or_shifted, or_shifted_r}
 use lib.ListN.{length, get_or, take, length-append, drop_of_length-le}
 use Rattle.std.specs.Int.{w32, rotate_left, rotate_right}
 use Rattle.words.proofs.Laws.{bytes_length, number_front, number_at_lem, take_splice, splice_four}
@@ -18,7 +17,7 @@ use Rattle.sbox.specs.Field.{xtime, three, sub}
 use Rattle.sbox.specs.Columns.{pack, spread}
 use Rattle.sbox.proofs.Laws.{values_at, sub_lt, xtime_lt, xlt, three_lt}
 use Rattle.sbox.proofs.Xor.{xor_assoc}
-use Rattle.aes.specs.Aes.{byte0, byte1, byte2, byte3, state, sub_word, sub_bytes, shifted, shift_rows, mix_bytes, mix_column, mix_columns, add_round_key, round, rounds, last_round, cipher, word_of, rot_word, rcon, next_word, schedule, key_words, block_at, block_bytes, encrypted, column, push, next_of}
+use Rattle.aes.specs.Aes.{byte0, byte1, byte2, byte3, state, sub_word, sub_bytes, shifted, shift_rows, mix_bytes, mix_column, mix_columns, add_round_key, round, rounds, last_round, cipher, word_of, rot_word, rcon, next_word, schedule, key_words, block_at, block_bytes, column, push, next_of}
 use Rattle.aes.specs.declared.Block.{Block}
 
 -- ---- words of four bytes
@@ -40,12 +39,6 @@ pack_xor a b c d e f g h hb hc hd hf hg hh =
 -- a word turned n bits to the right
 abbrev turned : ℕ → ℕ → ℕ
 turned n v = rotate_right w32 v n
-
-turn_none : (v : ℕ) → v < 2 ^ 32 → turned 0 v ≡ v
-turn_none v h =
-    let e : v / 2 ^ 0 ≡ v = omega arith in
-    let f : v * 2 ^ 0 % 2 ^ 32 ≡ v = omega arith in
-    ap₂ bit_or e f ∙ or_self v
 
 module _ (a b c d : ℕ) (ha : a < 256) (hb : b < 256) (hc : c < 256) (hd : d < 256) where
   rot8 : turned 8 (pack a b c d) ≡ pack d a b c
@@ -116,23 +109,6 @@ module _ (w x y z : ℕ) where
 
 -- ---- a column, row after row
 
-spread_lt : (b : ℕ) → b < 256 → spread b < 2 ^ 32
-unfolding spread
-spread_lt b h = let x = xtime_lt b h in let t = three_lt b h in packed (xtime b) b b (three b) x h h t
-  where
-    packed : (p q r t : ℕ) → p < 256 → q < 256 → r < 256 → t < 256 → pack p q r t < 2 ^ 32
-    packed p q r t hp hq hr ht = omega arith
-
--- two sums of a round's terms, turn about: after j rows they are at j and at j + 1
-unfoldable pub sums : ℕ → List ℕ → ℕ → ℕ
-sums k m zero = k
-sums k m (suc zero) = 0
-sums k m (suc (suc j)) = bit_xor (sums k m j) (turned (8 * j) (spread (sub (get_or m j 0))))
-
-pub sums_more : (k : ℕ) (m : List ℕ) (j e v n : ℕ) → e ≡ sums k m j → v ≡ spread (sub (get_or m j 0)) → n ≡ turned (8 * j) v → bit_xor e n ≡ sums k m (j + 1 + 1)
-unfolding sums
-sums_more k m j e v n p q r = ap₂ bit_xor p (r ∙ ap (turned (8 * j)) q) ∙ sym (ap (sums k m) (ap (λ (i : ℕ). i + 1) (add-one j) ∙ add-one (suc j)))
-
 -- the order of the sums
 gathered : (k a b c d : ℕ) → bit_xor (bit_xor (bit_xor k a) c) (bit_xor b d) ≡ bit_xor (bit_xor (bit_xor (bit_xor a b) c) d) k
 gathered k a b c d =
@@ -146,23 +122,22 @@ module _ (w x y z : ℕ) where
   abbrev taken : List ℕ
   taken = byte0 w ∷ byte1 x ∷ byte2 y ∷ byte3 z ∷ []
 
-  mixed_sums : (k : ℕ) → bit_xor (sums k taken 4) (sums k taken 5) ≡ column w x y z k
-  unfolding column sums
-  mixed_sums k =
+  pub mixed_law : (k : ℕ)
+      → bit_xor
+      (bit_xor (bit_xor k (spread (sub (byte0 w)))) (turned 16 (spread (sub (byte2 y)))))
+      (bit_xor (turned 8 (spread (sub (byte1 x)))) (turned 24 (spread (sub (byte3 z)))))
+      ≡ column w x y z k
+  unfolding column
+  mixed_law k =
       let p = sub_lt (byte0 w) in
       let q = sub_lt (byte1 x) in
       let r = sub_lt (byte2 y) in
       let s = sub_lt (byte3 z) in
-      gathered k (turned 0 (spread (sub (byte0 w)))) (turned 8 (spread (sub (byte1 x)))) (turned 16 (spread (sub (byte2 y)))) (turned 24 (spread (sub (byte3 z))))
+      gathered k (spread (sub (byte0 w))) (turned 8 (spread (sub (byte1 x)))) (turned 16 (spread (sub (byte2 y)))) (turned 24 (spread (sub (byte3 z))))
       ∙ ap (λ (v : ℕ). bit_xor v k)
-      (ap (λ (v : ℕ). bit_xor (bit_xor (bit_xor v (turned 8 (spread (sub (byte1 x))))) (turned 16 (spread (sub (byte2 y))))) (turned 24 (spread (sub (byte3 z))))) (turn_none (spread (sub (byte0 w))) (spread_lt (sub (byte0 w)) p))
-      ∙ mix_law (sub (byte0 w)) (sub (byte1 x)) (sub (byte2 y)) (sub (byte3 z)) p q r s
+      (mix_law (sub (byte0 w)) (sub (byte1 x)) (sub (byte2 y)) (sub (byte3 z)) p q r s
       ∙ sym (mix_pack (sub (byte0 w)) (sub (byte1 x)) (sub (byte2 y)) (sub (byte3 z)) p q r s)
       ∙ ap mix_column (sym (shift_sub w x y z)))
-
-  pub mixed_is : (k : ℕ) (m : List ℕ) (j e f : ℕ) → m ≡ taken → j ≡ 4 → e ≡ sums k m j → f ≡ sums k m (j + 1) → bit_xor e f ≡ column w x y z k
-  mixed_is k m j e f em ej p q =
-      ap₂ bit_xor (p ∙ ap₂ (λ (l : List ℕ) (i : ℕ). sums k l i) em ej) (q ∙ ap₂ (λ (l : List ℕ) (i : ℕ). sums k l (i + 1)) em ej) ∙ mixed_sums k
 
 -- the bytes of a word, substituted one after another
 unfoldable pub subs : List ℕ → ℕ → ℕ
@@ -206,44 +181,27 @@ key_added b i s u r h eu er =
     word : (j p n : ℕ) → p ≡ 4 * n → n ≡ 4 * i + j → j ≤ 3 → number_at 4 b p ≡ get_or (key_words b) n 0
     word j p n e f k = ap (number_at 4 b) e ∙ key_word b n (omega arith)
 
-pub last_is : (b : List ℕ) (s u r : Block) (v0 v1 v2 v3 : ℕ)
-    → v0 ≡ pack (sub (byte0 s.w0)) (sub (byte1 s.w1)) (sub (byte2 s.w2)) (sub (byte3 s.w3))
-    → v1 ≡ pack (sub (byte0 s.w1)) (sub (byte1 s.w2)) (sub (byte2 s.w3)) (sub (byte3 s.w0))
-    → v2 ≡ pack (sub (byte0 s.w2)) (sub (byte1 s.w3)) (sub (byte2 s.w0)) (sub (byte3 s.w1))
-    → v3 ≡ pack (sub (byte0 s.w3)) (sub (byte1 s.w0)) (sub (byte2 s.w1)) (sub (byte3 s.w2))
-    → u ≡ block_at b 160 → r ≡ state (bit_xor v0 u.w0) (bit_xor v1 u.w1) (bit_xor v2 u.w2) (bit_xor v3 u.w3) → r ≡ last_round (key_words b) s
+pub last_law : (b : List ℕ) (s u : Block) → u ≡ block_at b 160
+    → state
+    (bit_xor (pack (sub (byte0 s.w0)) (sub (byte1 s.w1)) (sub (byte2 s.w2)) (sub (byte3 s.w3))) u.w0)
+    (bit_xor (pack (sub (byte0 s.w1)) (sub (byte1 s.w2)) (sub (byte2 s.w3)) (sub (byte3 s.w0))) u.w1)
+    (bit_xor (pack (sub (byte0 s.w2)) (sub (byte1 s.w3)) (sub (byte2 s.w0)) (sub (byte3 s.w1))) u.w2)
+    (bit_xor (pack (sub (byte0 s.w3)) (sub (byte1 s.w0)) (sub (byte2 s.w1)) (sub (byte3 s.w2))) u.w3)
+    ≡ last_round (key_words b) s
 unfolding last_round shift_rows sub_bytes
-last_is b s u r v0 v1 v2 v3 e0 e1 e2 e3 eu er =
-    key_added b 10 (shift_rows (sub_bytes s)) u r (omega arith) eu
-    (er
-    ∙ ap (λ (x : Block). state (bit_xor x.w0 u.w0) (bit_xor x.w1 u.w1) (bit_xor x.w2 u.w2) (bit_xor x.w3 u.w3))
-    (same (e0 ∙ sym (shift_sub s.w0 s.w1 s.w2 s.w3)) (e1 ∙ sym (shift_sub s.w1 s.w2 s.w3 s.w0)) (e2 ∙ sym (shift_sub s.w2 s.w3 s.w0 s.w1)) (e3 ∙ sym (shift_sub s.w3 s.w0 s.w1 s.w2))))
+last_law b s u e =
+    ap (λ (x : Block). state (bit_xor x.w0 u.w0) (bit_xor x.w1 u.w1) (bit_xor x.w2 u.w2) (bit_xor x.w3 u.w3))
+    (same (sym (shift_sub s.w0 s.w1 s.w2 s.w3)) (sym (shift_sub s.w1 s.w2 s.w3 s.w0)) (sym (shift_sub s.w2 s.w3 s.w0 s.w1)) (sym (shift_sub s.w3 s.w0 s.w1 s.w2)))
+    ∙ key_added b 10 (shift_rows (sub_bytes s)) u _ (omega arith) e refl
 
--- the columns of s, turned j times; and the columns of round i that are made, behind what is left of s
-unfoldable pub turns : Block → ℕ → Block
-turns s zero = s
-turns s (suc j) = push (turns s j) (turns s j).w0
+pub round_law : (b : List ℕ) (s u : Block) (i : ℕ) → i < 11 → u ≡ block_at b (16 * i)
+    → state (column s.w0 s.w1 s.w2 s.w3 u.w0) (column s.w1 s.w2 s.w3 s.w0 u.w1) (column s.w2 s.w3 s.w0 s.w1 u.w2) (column s.w3 s.w0 s.w1 s.w2 u.w3) ≡ round (key_words b) i s
+unfolding column round mix_columns shift_rows sub_bytes
+round_law b s u i h e = key_added b i (mix_columns (shift_rows (sub_bytes s))) u _ (omega arith) e refl
 
-unfoldable pub made : List ℕ → ℕ → Block → ℕ → Block
-made w i s zero = s
-made w i s (suc j) = push (made w i s j) (column (turns s j).w0 (turns s j).w1 (turns s j).w2 (turns s j).w3 (get_or w (4 * i + j) 0))
-
-pub turns_more : (s a r : Block) (j : ℕ) → a ≡ turns s j → r ≡ push a a.w0 → r ≡ turns s (j + 1)
-unfolding turns
-turns_more s a r j e p = p ∙ ap (λ (x : Block). push x x.w0) e ∙ sym (ap (turns s) (add-one j))
-
-pub made_more : (l : List ℕ) (i j u v : ℕ) (s a b r : Block) → 4 * i + j < 44 → a ≡ turns s j → b ≡ made (key_words l) i s j → u ≡ word_of l (4 * i + j)
-    → v ≡ column a.w0 a.w1 a.w2 a.w3 u → r ≡ push b v → r ≡ made (key_words l) i s (j + 1)
-unfolding made
-made_more l i j u v s a b r h ea eb eu ev er =
-    er ∙ ap₂ push eb (ev ∙ ap₂ (λ (x : Block) (y : ℕ). column x.w0 x.w1 x.w2 x.w3 y) ea (eu ∙ key_word l (4 * i + j) h)) ∙ sym (ap (made (key_words l) i s) (add-one j))
-
-four_made : (w : List ℕ) (i : ℕ) (s : Block) → made w i s 4 ≡ round w i s
-unfolding made turns round add_round_key mix_columns shift_rows sub_bytes column
-four_made w i s = ap (λ (n : ℕ). state (column s.w0 s.w1 s.w2 s.w3 (get_or w n 0)) (column s.w1 s.w2 s.w3 s.w0 (get_or w (4 * i + 1) 0)) (column s.w2 s.w3 s.w0 s.w1 (get_or w (4 * i + 2) 0)) (column s.w3 s.w0 s.w1 s.w2 (get_or w (4 * i + 3) 0))) (add-zero (4 * i))
-
-pub round_made : (w : List ℕ) (i j : ℕ) (s b : Block) → j ≡ 4 → b ≡ made w i s j → b ≡ round w i s
-round_made w i j s b ej eb = eb ∙ ap (made w i s) ej ∙ four_made w i s
+pub first_round : (w : List ℕ) (s x r : Block) → x ≡ add_round_key w 0 s → r ≡ round w 1 x → r ≡ rounds w 1 (add_round_key w 0 s)
+unfolding rounds
+first_round w s x r ex er = er ∙ ap (round w 1) ex
 
 pub more_rounds : (w : List ℕ) (s x r : Block) (i : ℕ) → 1 ≤ i → x ≡ rounds w (i - 1) s → r ≡ round w i x → r ≡ rounds w (i + 1 - 1) s
 unfolding rounds
@@ -252,9 +210,9 @@ more_rounds w s x r i h ex er =
     let m : i + 1 - 1 ≡ suc (i - 1) = omega arith in
     er ∙ ap₂ (round w) n ex ∙ sym (ap (λ (j : ℕ). rounds w j s) m)
 
-pub cipher_is : (w : List ℕ) (s y x r : Block) (i : ℕ) → y ≡ add_round_key w 0 s → x ≡ rounds w (i - 1) y → i ≡ 10 → r ≡ last_round w x → r ≡ cipher w s
+pub cipher_is : (w : List ℕ) (s x r : Block) (i : ℕ) → x ≡ rounds w (i - 1) (add_round_key w 0 s) → i ≡ 10 → r ≡ last_round w x → r ≡ cipher w s
 unfolding cipher
-cipher_is w s y x r i ey ex en er = er ∙ ap (last_round w) (ex ∙ ap₂ (λ (j : ℕ) (b : Block). rounds w (j - 1) b) en ey)
+cipher_is w s x r i ex en er = er ∙ ap (last_round w) (ex ∙ ap (λ (j : ℕ). rounds w (j - 1) (add_round_key w 0 s)) en)
 
 -- ---- the key schedule
 
@@ -340,11 +298,7 @@ schedule_more key l m j v h e f g =
     ∙ ap₂ (λ (x : List ℕ) (y : ℕ). x ++ bytes_of 4 y) e f
     ∙ sym (ap (schedule key) (add-one j))
 
--- ---- one block, from bytes to bytes
-
-pub encrypted_is : (bytes block r : List ℕ) (s e : Block) → s ≡ block_at block 0 → e ≡ cipher (key_words bytes) s → r ≡ block_bytes e → r ≡ encrypted bytes block
-unfolding encrypted
-encrypted_is bytes block r s e es ee er = er ∙ ap block_bytes (ee ∙ ap (cipher (key_words bytes)) es)
+-- ---- a block as bytes
 
 -- as many bytes as there are put in the place of all
 put_all : (d v : List ℕ) → length d ≡ length v → splice d 0 v ≡ v

@@ -21,13 +21,13 @@ pub const EXPANDED_BYTES: usize = 176;
 // Words of the expansion after the key's own.
 const NEW_WORDS: usize = 40;
 
+const FIRST_ROUND: usize = 1;
+
 // The round without MixColumns. Those before it have all four steps.
 const LAST_ROUND: usize = 10;
 
 // Of the state.
 const ROWS: usize = 4;
-
-const COLUMNS: usize = 4;
 
 /// The state: its four columns as words, row 0 in the highest byte.
 #[derive(Clone, Copy, Debug, PartialEq, Eq)]
@@ -91,19 +91,15 @@ fn rows(w: u32, x: u32, y: u32, z: u32) -> [u8; ROWS]
     [a, b, c, d]
 }
 
-// One column after SubBytes, ShiftRows, MixColumns and AddRoundKey. The terms go to two sums in turn, which are worked side by side.
+// One column after SubBytes, ShiftRows, MixColumns and AddRoundKey. The terms go to two sums, which are worked side by side.
+#[tactic(auto, using(crate::proofs::Laws::mixed_law))]
 fn mixed(w: u32, x: u32, y: u32, z: u32, k: u32) -> u32
     ensures { result ≡ column w x y z k }
 {
-    let m = rows(w, x, y, z);
-    let mut e = k;
-    let mut f = 0;
-    for j in 0..ROWS {
-        let n = e ^ sbox::spread_at(m[j]).rotate_right(8 * j as u32);
-        e = f;
-        f = n;
-    }
-    e ^ f
+    let [a, b, c, d] = rows(w, x, y, z);
+    let even = k ^ sbox::spread_at(a) ^ sbox::spread_at(c).rotate_right(16);
+    let odd = sbox::spread_at(b).rotate_right(8) ^ sbox::spread_at(d).rotate_right(24);
+    even ^ odd
 }
 
 // A byte of each of four words, substituted.
@@ -117,21 +113,23 @@ fn substituted(w: u32, x: u32, y: u32, z: u32) -> u32
     v
 }
 
-// Round i, under the bytes of an expanded key: the columns go by in a loop, so that one place looks up the table. Inner.
+// Round i, under the bytes of an expanded key. Inner.
+#[tactic(auto, using(crate::proofs::Laws::round_law))]
 fn one_round(k: &[u8; EXPANDED_BYTES], i: usize, s: Block) -> Block
     requires { i < 11 }
     ensures { result ≡ round (key_words k.now) i s }
 {
-    let mut a = s;
-    let mut b = s;
-    for j in 0..COLUMNS {
-        b = b.pushed(mixed(a.w0, a.w1, a.w2, a.w3, load(k, 4 * (4 * i + j))));
-        a = a.pushed(a.w0);
+    let u = block_at(k, BLOCK_BYTES * i);
+    Block {
+        w0: mixed(s.w0, s.w1, s.w2, s.w3, u.w0),
+        w1: mixed(s.w1, s.w2, s.w3, s.w0, u.w1),
+        w2: mixed(s.w2, s.w3, s.w0, s.w1, u.w2),
+        w3: mixed(s.w3, s.w0, s.w1, s.w2, u.w3),
     }
-    b
 }
 
 // The last round, without MixColumns.
+#[tactic(auto, using(crate::proofs::Laws::last_law))]
 fn last_round(k: &[u8; EXPANDED_BYTES], s: Block) -> Block
     ensures { result ≡ last_round (key_words k.now) s }
 {
@@ -144,12 +142,14 @@ fn last_round(k: &[u8; EXPANDED_BYTES], s: Block) -> Block
     t ^ block_at(k, BLOCK_BYTES * LAST_ROUND)
 }
 
-/// One block under the bytes of an expanded key. Its words are read where they are needed: to turn their bytes costs less than a copy.
+/// One block under the bytes of an expanded key. Its words are read where they are needed: to turn their bytes costs less than a copy. The
+/// first round stands before the loop, and the whole in its caller: the compiler then keeps each column in a register of its own.
+#[inline(always)]
 pub fn encrypt_block(k: &[u8; EXPANDED_BYTES], s: Block) -> Block
     ensures { result ≡ cipher (key_words k.now) s }
 {
-    let mut x = s ^ block_at(k, 0);
-    for i in 1..LAST_ROUND {
+    let mut x = one_round(k, FIRST_ROUND, s ^ block_at(k, 0));
+    for i in FIRST_ROUND + 1..LAST_ROUND {
         x = one_round(k, i, x);
     }
     last_round(k, x)

@@ -6,21 +6,16 @@ use native.Mathlib.Omega.{arith}
 use lib.Dec.{ltb}
 use lib.ListN.{get_or, length, take, drop, length-append, length-take, length-drop, take-append-drop, get_or-append}
 use lib.Seq.{take-append-le, drop-append-le, get_or-take}
-use borrow.Author.Tests.{lt-ltb, le-ltb, ltb-false}
+use borrow.Author.Tests.{le-ltb, ltb-false}
 use Rattle.words.specs.Numbers.{number_at}
 use Rattle.words.specs.Splices.{part}
 use Rattle.words.proofs.Laws.{number_front, picked, never}
 use Rattle.std.specs.Prelude.{Option, Some, None, Err}
 use Rattle.std.proofs.lemmas.Option.{same_Some}
-use Rattle.entry.specs.Entries.{entry_of, head_of, head_end, read_by, reading_of, read_entry, read_at, reading_used}
+use Rattle.entry.specs.Entries.{entry_of, head_of, head_end, read_by, reading_of, read_entry, reading_used}
 use Rattle.entry.specs.declared.Entry.{Entry}
 use Rattle.entry.specs.declared.Head.{Head}
 use Rattle.entry.specs.declared.Unread.TheVariants.{Short}
-
--- past the end of a log there is no entry
-pub read_past : (log : List ℕ) (at : ℕ) → length log ≤ at → Err Short ≡ read_at log at
-unfolding read_entry head_of
-read_past log at h = simp (lt-ltb (length (drop at log)) 3 (simp length-drop (omega arith)))
 
 -- ---- the head
 

@@ -1,7 +1,7 @@
 -- Part 3 of demand 3, the invariant: the cache, the true values, the messages evicted and added; and that each entry keeps it.
 use mathlib.Core.Path.{◌≡◌, refl, sym, ◌∙◌, ap, subst, fun_ext}
 use mathlib.Core.Logic.{◌⊎◌, inl, inr, ◌≢◌}
-use mathlib.Core.Bool.{Bool, true, false, true≢false}
+use mathlib.Core.Bool.{Bool, true, false}
 use mathlib.Core.Option.{Option, none, some, none-ne-some}
 use mathlib.Core.List.Memᴰ
 use mathlib.Core.List.{List, ◌∷◌, Memᴰ}
@@ -191,9 +191,6 @@ module _ (H : Value → Digest) (is_data : Key → Bool) where
         (low : (u : Bool) (j : Key) (d : Digest) (a : Bool) → side_of u vk ≡ link j d a → (side_of s (val p) ≡ link j d a) × Below k u j)
         (keep : (j : Key) → key_of (side_of s (val p)) ≡ some j → (u : Bool) × (key_of (side_of u vk) ≡ some j))
         (fit : is_data k ≡ true → IsNode vk → ⊥) where
-      no_link_lem : (q : Key) (u : Bool) (d : Digest) (a : Bool) → side_of u (val q) ≡ link k d a → ⊥
-      no_link_lem q u d a e = true≢false (sym (I.tree.linked q k u (ap key_of e)) ∙ lk)
-
       pub step_insert : (xp : Cell) → c p ≡ some xp → c k ≡ none
           → Inv (upd2 c p (some (record { origin = xp.origin; value = set_side s (link k nd false) (val p) })) k (some (record { origin = from_tree; value = vk })))
           (link_to val p s k nd false vk) (upd live k true) ev ad

@@ -3,7 +3,6 @@ use Prim.Native.Nat.{ℕ, zero, suc, ◌+◌, ◌-◌, ◌≤◌, ◌<◌}
 use mathlib.Core.Path.{◌≡◌, refl, ap, sym, ◌∙◌}
 use mathlib.Core.List.{List, ◌++◌}
 use mathlib.Core.Bool.{true, false, true≢false}
-use native.Mathlib.Nat.{sub-zero}
 use native.Mathlib.Omega.{arith}
 use lib.ListN.{length, get_or, drop, length-append}
 use lib.Seq.{length-take-le}
@@ -39,11 +38,6 @@ rows_turn f g log at n st c p h = rw (p, lt-leb _ _ h)
 pub record Left (log x₀ : List ℕ) (k₀ at n : ℕ) (st : State) (c : List ℕ) (pos : ℕ) (out : List ℕ) : Type 0 where
   pub bytes : splice out pos (rows_from (length log - n) log at n st c) ≡ x₀
   pub count : pos + length (rows_from (length log - n) log at n st c) ≡ k₀
-
--- at first, all of it
-pub left_all : (log : List ℕ) (st : State) (c : List ℕ) (pos : ℕ) (out : List ℕ)
-    → Left log (splice out pos (rows_from (length log) log 0 0 st c)) (pos + length (rows_from (length log) log 0 0 st c)) 0 0 st c pos out
-left_all log st c pos out = record { bytes = rw sub-zero; count = rw sub-zero }
 
 module _ (log x₀ : List ℕ) (k₀ at n : ℕ) (st : State) (c : List ℕ) (pos : ℕ) (out : List ℕ) (left : Left log x₀ k₀ at n st c pos out) where
   -- at the log's end, the last line

@@ -17,11 +17,9 @@ use Rattle.words.proofs.Laws.{both_true, true_both, drop_bytes}
 use Rattle.verdict.specs.Verdicts.{accepted, not_well, wrong_cache, number}
 use Rattle.verdict.specs.declared.Refusal.{Refusal}
 use Rattle.verdict.proofs.Reasons.{reasons, reason_back}
-use Rattle.aes.specs.Aes.{expansion}
 use Rattle.entry.specs.Entries.{read_entry, reading_used}
 use Rattle.entry.specs.declared.Unread.TheVariants as unread
 use Rattle.entry.proofs.Laws.{used_within, used_some}
-use Rattle.hash.specs.Hashes.{set_bytes}
 use Rattle.hash.specs.declared.SetKey.{SetKey}
 use Rattle.cache.specs.Caches.{well_length, well_cache}
 use Rattle.state.specs.States.{well_state, settled}
@@ -55,9 +53,6 @@ pub record Going (k : SetKey) (st : State) (c : List ℕ) : Type 0 where
 pub going_state : (k : SetKey) (st : State) (c : List ℕ) → Going k st c → well_state st ≡ true
 unfolding sound
 going_state k st c g = (both_true (well_state st) (well_cache c) (both_true (well_length c) (well_formed st c) g.well).1).0
-
-pub going_key : (k : SetKey) (st : State) (c x : List ℕ) → Going k st c → x ≡ expansion (set_bytes k) → x ≡ expansion (set_bytes st.set)
-going_key k st c x g e = rw g.set e
 
 module _ (log : List ℕ) (k : SetKey) (st : State) (c : List ℕ) (g : Going k st c) where
   going_inner : step log st c ≡ step_well log st c

@@ -12,7 +12,7 @@ ghost use Rattle.adds.specs.Parts.{add_same, add_first};
 ghost use Rattle.rules.specs.Adds.{linked, add_link, add_under, add_tree};
 
 use key::Key;
-use rules::{Parent, free_in, record_in};
+use records::{Parent, free_in, record_in};
 use slot::{ORIGIN_TREE, SLOT_BYTES, set_slot};
 use state::State;
 use tree::{bare_node, fits, is_first, with_side};

@@ -216,7 +216,7 @@ cipher_is w s x r i ex en er = er ∙ ap (last_round w) (ex ∙ ap (λ (j : ℕ)
 
 -- ---- the key schedule
 
-rotated_is : (v : ℕ) → v < 2 ^ 32 → rotate_left w32 v 8 ≡ rot_word v
+pub rotated_is : (v : ℕ) → v < 2 ^ 32 → rotate_left w32 v 8 ≡ rot_word v
 rotated_is v h =
     let e : v * 2 ^ 8 % 2 ^ 32 ≡ v % 2 ^ 24 * 2 ^ 8 = omega arith in
     let e1 : v / 65536 ≡ v / 16777216 * 256 + v / 65536 % 256 = omega arith in
@@ -236,10 +236,10 @@ module _ (u v j : ℕ) where
   abbrev chosen : Bool → ℕ
   chosen b = bit_xor u (pick b (bit_xor (sub_word (rot_word v)) (rcon (j / 4))) v)
 
-  pub next_sub : (w s r : ℕ) → v < 2 ^ 32 → j % 4 ≡ 0 → w ≡ rotate_left w32 v 8 → s ≡ pack (sub (byte0 w)) (sub (byte1 w)) (sub (byte2 w)) (sub (byte3 w)) → r ≡ rcon (j / 4)
+  pub next_sub : (w s r : ℕ) → j % 4 ≡ 0 → w ≡ rot_word v → s ≡ pack (sub (byte0 w)) (sub (byte1 w)) (sub (byte2 w)) (sub (byte3 w)) → r ≡ rcon (j / 4)
       → bit_xor u (bit_xor s r) ≡ next_of u v j
   unfolding next_of sub_word
-  next_sub w s r b h ew es er = ap (bit_xor u) (ap₂ bit_xor (es ∙ ap sub_word (ew ∙ rotated_is v b)) er) ∙ sym (ap chosen (eq-eqb (j % 4) 0 h))
+  next_sub w s r h ew es er = ap (bit_xor u) (ap₂ bit_xor (es ∙ ap sub_word ew) er) ∙ sym (ap chosen (eq-eqb (j % 4) 0 h))
 
   pub next_plain : (j % 4 ≡ 0 → ⊥) → bit_xor u v ≡ next_of u v j
   unfolding next_of

@@ -7,7 +7,7 @@ use Rattle.value.specs.declared.Value.{Value}
 use Rattle.slot.specs.Slots.{slot_length}
 use Rattle.slot.specs.declared.Slot.TheVariants.{Full}
 use Rattle.state.specs.declared.State.{State}
-use Rattle.rules.specs.declared.Record.{Record}
+use Rattle.records.specs.declared.Record.{Record}
 use Rattle.rules.specs.Outcomes.{refuses}
 use Rattle.rules.specs.Answers.{get, get_slot, absent, absent_slot, put, put_into}
 

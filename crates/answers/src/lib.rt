@@ -10,7 +10,7 @@ ghost use Rattle.rules.specs.Answers.{get, absent, put};
 ghost use Rattle.answers.specs.Parts.{IsRecordIn, IsRefusedAt};
 
 use key::Key;
-use rules::Record;
+use records::Record;
 use slot::{SLOT_BYTES, set_slot};
 use state::State;
 use tree::{is_node, side_of};
@@ -26,7 +26,7 @@ fn record_in(s: u16, cache: &[u8]) -> Result<Record, Refusal>
     if cache.len() / SLOT_BYTES <= i {
         return Err(Refusal::NoSlot);
     }
-    rules::record_in(cache, i)
+    records::record_in(cache, i)
 }
 
 /// 6: s, key, value. The slot's value equals the given one.

@@ -8,7 +8,7 @@ ghost use Rattle.state.specs.States.{clock_limit};
 ghost use Rattle.rules.specs.Outcomes.{outcome, done};
 ghost use Rattle.rules.specs.Evicts.{evict_deferred};
 
-use rules::{ROOT_SLOT, record_in};
+use records::{ROOT_SLOT, record_in};
 use slot::{ORIGIN_DEFERRED, SLOT_BYTES, free_slot};
 use state::{COUNT_LIMIT, Keyed, State};
 use verdict::Refusal;

@@ -305,7 +305,7 @@ pub fn body(log: &[u8]) -> &[u8]
     ensures { result.now ≡ body_of log.now }
 {
     match head_of(log) {
-        None => &[],
+        None => &log[..0],
         Some(h) => after_head(log, h.len),
     }
 }

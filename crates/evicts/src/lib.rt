@@ -12,7 +12,7 @@ ghost use Rattle.state.specs.States.{clock_limit};
 ghost use Rattle.rules.specs.Outcomes.{outcome, done};
 ghost use Rattle.rules.specs.Evicts.{unlinked, to_deferred, evict_link, evict_under, evict_by};
 
-use rules::{Parent, ROOT_SLOT, Record, record_in};
+use records::{Parent, ROOT_SLOT, Record, record_in};
 use slot::{ORIGIN_TREE, SLOT_BYTES, free_slot};
 use state::{COUNT_LIMIT, Keyed, State};
 use value::{Digest, Side, Value};

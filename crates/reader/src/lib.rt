@@ -29,7 +29,7 @@ fn whole(log: &[u8]) -> usize
 pub fn rest_at(log: &[u8], at: usize) -> &[u8]
     ensures { result.now ≡ drop at log.now }
 {
-    log.get(at..).unwrap_or(&[])
+    log.get(at..).unwrap_or(&log[..0])
 }
 
 /// The body of the entry at a place: the plain form.

@@ -1,5 +1,6 @@
--- A refused entry leaves the state and every byte of the cache as they were: for each entry, and for a step on any bytes.
-use Rattle.std.specs.Prelude.{Option, Some, None, Ok, Err}
+-- A refused entry leaves the state and every byte of the cache as they were: for each entry, and for a step on any bytes. And what the code answers
+-- is told by the rules in one way alone.
+use Rattle.std.specs.Prelude.{Option, Some, None, Result, Ok, Err}
 use mathlib.Core.Path.{◌≡◌, refl, ap}
 use mathlib.Core.Bool.{Bool, true, false}
 use mathlib.Core.List.{List}
@@ -9,6 +10,9 @@ use borrow.Author.Tests.{eqb-true}
 use Rattle.words.specs.Choice.{pick}
 use Rattle.words.proofs.Laws.{both_true}
 use Rattle.verdict.specs.Verdicts.{accepted, not_well, malformed, short, no_slot, slot_taken, slot_empty, key_held, wrong_kind, other_key, no_ancestor, no_link, other_branch, marked_deferred, digest_differs, not_first, wrong_origin, root_slot, epoch_not_open, time_out_of_range, count_full, epoch_full, wrong_moment, counts_differ, sums_differ, wrong_cache}
+use Rattle.verdict.specs.Verdicts as verdicts
+use Rattle.verdict.specs.declared.Refusal.{Refusal}
+use Rattle.verdict.proofs.Reasons.{view_back}
 use Rattle.cmac.specs.Tags.{tag_eq}
 use Rattle.key.specs.Keys.{key_eq, above, toward}
 use Rattle.key.specs.declared.Key.{Key}
@@ -32,7 +36,7 @@ use Rattle.cache.specs.Caches.{slot_in, count, held, well_length, well_cache}
 use Rattle.state.specs.States.{count_limit, epoch_limit, well_state}
 use Rattle.state.specs.declared.Tally.{Tally}
 use Rattle.state.specs.declared.State.{State}
-use Rattle.rules.specs.Outcomes.{Done, Outcome, outcome, refuses, accepts}
+use Rattle.rules.specs.Outcomes.{Done, Outcome, outcome, done, refuses, accepts}
 use Rattle.rules.specs.Adds.{add_side, add_link, add_node, add_to, add_under, add_at, add_tree, named_epoch, in_time, add_named, add_into, defer_at, add_deferred}
 use Rattle.rules.specs.Evicts.{evict_side, evict_link, evict_node, evict_to, evict_under, evict_at, evict_by, deferred_at, evict_deferred}
 use Rattle.rules.specs.Answers as answers
@@ -224,3 +228,13 @@ module _ (st : State) (c : List ℕ) where
       len : (b : Bool) → well_length c ≡ b → Stepping w (pick b (pick (well_formed st c) (step_read st c (read_entry w)) (taking 0 (refuses not_well st c))) (taking 0 (refuses wrong_cache st c)))
       len true e = formed (well_formed st c) refl
       len false e = kept wrong_cache 0 refl refl
+
+-- ---- what the code answers
+
+-- no two results of the code are told alike by the rules
+pub done_back : (st : State) (x y : Result State Refusal) → done x st ≡ done y st → x ≡ y
+done_back st = view_back (λ (z : Result State Refusal). done z st) (λ (d : Done). d.verdict) tells (λ s t e. ap (λ (d : Done). d.state) e)
+  where
+    tells : (z : Result State Refusal) → (done z st).verdict ≡ verdicts.told z
+    tells (Ok next) = refl
+    tells (Err r) = refl

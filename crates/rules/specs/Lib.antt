@@ -1,6 +1,5 @@
 -- The rules: what each entry comes to, one step, and a run over a log.
 pub mod Outcomes
-pub mod Records
 pub mod Adds
 pub mod Evicts
 pub mod Answers

@@ -14,6 +14,11 @@ use Rattle.words.specs.Splices.{splice}
 use Rattle.words.specs.declared.Four.{Four}
 use Rattle.words.proofs.Laws.{bytes_low, bytes_length, bytes_split, take_splice, splice_all, four_at_lem, four_back, append_bytes, number_bytes}
 use Rattle.sha256.specs.Sha256.{Hash, H0, compress, blocks, padding, after, padded, hash_bytes}
+use Rattle.std.specs.Prelude.{Result, Ok, Err}
+use Rattle.verdict.specs.Verdicts.{told}
+use Rattle.verdict.specs.declared.Refusal.{Refusal}
+use Rattle.verdict.proofs.Reasons.{view_back}
+use Rattle.sha256.specs.Sha256.{Answer, answer}
 
 -- ---- the stores of `ending`
 pub marked : (t : List ℕ) → length t < 64 → set (t ++ replicate (128 - length t) 0) (length t) 0x80 ≡ t ++ 0x80 ∷ replicate (127 - length t) 0
@@ -204,3 +209,13 @@ hash_written s w d r l p q =
     q ∙ ap (λ (x : Four). splice d 0 (four_words x.first x.second x.third x.fourth)) p
     ∙ ap (splice d 0) (four_back (hash_bytes s) 0 (hash_is_bytes s) (omega (arith, n)) ∙ take_all 32 (hash_bytes s) (omega (arith, n)))
     ∙ splice_all d (hash_bytes s) (n ∙ sym l)
+
+-- ---- the answers
+
+-- no two results of the code come to one answer
+pub answer_back : (x y : Result (List ℕ) Refusal) → answer x ≡ answer y → x ≡ y
+answer_back = view_back answer (λ (a : Answer). a.verdict) tells (λ s t e. ap (λ (a : Answer). a.bytes) e)
+  where
+    tells : (z : Result (List ℕ) Refusal) → (answer z).verdict ≡ told z
+    tells (Ok b) = refl
+    tells (Err r) = refl

@@ -26,6 +26,17 @@ use Rattle.state.specs.States.{epoch_limit, count_limit, clock_limit, well_tally
 use Rattle.state.specs.declared.Tally.{Tally}
 use Rattle.std.specs.Prelude.{Some}
 use Rattle.state.specs.declared.State.{State}
+use Rattle.std.specs.Prelude.{Result, Ok, Err}
+use Rattle.verdict.specs.Verdicts.{told}
+use Rattle.verdict.specs.declared.Refusal.{Refusal}
+use Rattle.verdict.proofs.Reasons.{view_back}
+use Rattle.state.specs.States.{Opened, opened}
+use Rattle.std.proofs.Math.Path.{to_path_p}
+use Rattle.std.proofs.Props.{props}
+use Rattle.aes.specs.declared.Expanded.{Expanded}
+use Rattle.aes.specs.Aes.{expansion}
+use Rattle.hash.specs.Hashes.{set_bytes}
+use Rattle.state.specs.declared.Keyed.{Keyed}
 
 -- ---- well formed
 
@@ -166,3 +177,25 @@ module _ (key c : List ℕ) where
 
   pub open_well_length : well_length c ≡ true → well_length (open_def key c).bytes ≡ true
   open_well_length w = ap (λ (o : Opening). well_length o.bytes) (open_taken w) ∙ opened_well_length c w
+
+-- ---- the answers
+
+-- no two results of the code come to one answer
+pub opened_back : (x y : Result State Refusal) → opened x ≡ opened y → x ≡ y
+opened_back = view_back opened (λ (o : Opened). o.verdict) tells (λ s t e. ap (λ (o : Opened). o.state) e)
+  where
+    tells : (z : Result State Refusal) → (opened z).verdict ≡ told z
+    tells (Ok st) = refl
+    tells (Err r) = refl
+
+-- a state has one expansion of its set key beside it: `result.state ≡ st` leaves no choice
+expanded_back : (x y : Expanded) → x.bytes ≡ y.bytes → x ≡ y
+expanded_back x y p = λ i. record { bytes = p i }
+
+one_fact : (x y : List ℕ) → IsProp (x ≡ y)
+one_fact x y = Prim.hlevel props
+
+pub keyed_back : (a b : Keyed) → a.state ≡ b.state → a ≡ b
+keyed_back a b p =
+    let q : a.expanded ≡ b.expanded = expanded_back a.expanded b.expanded (a.of_its_key ∙ ap (λ (s : State). expansion (set_bytes s.set)) p ∙ sym b.of_its_key) in
+    λ i. record { state = p i; expanded = q i; of_its_key = to_path_p (λ j. (q j).bytes ≡ expansion (set_bytes (p j).set)) {a = a.of_its_key} {b = b.of_its_key} (one_fact b.expanded.bytes (expansion (set_bytes b.state.set)) (coe 0 1 (j. (q j).bytes ≡ expansion (set_bytes (p j).set)) a.of_its_key) b.of_its_key) i }

@@ -1,3 +1,4 @@
 -- A step keeps what is well formed.
 pub mod Kept
 pub mod Unread
+pub mod Told

@@ -15,6 +15,12 @@ use Rattle.words.specs.Choice.{both}
 use Rattle.words.specs.Splices.{splice}
 use Rattle.words.proofs.Laws.{splice_join, take_splice, both_true}
 use Rattle.term.specs.Terms.{letters, well_code, well_term, same_bytes, hashed}
+use mathlib.Core.Bool.{Bool}
+use Rattle.std.specs.Prelude.{Result, Ok, Err}
+use Rattle.verdict.specs.Verdicts.{told}
+use Rattle.verdict.specs.declared.Refusal.{Refusal}
+use Rattle.verdict.proofs.Reasons.{view_back}
+use Rattle.term.specs.Terms.{Match, match_answer}
 
 -- the tests of std are those of the definitions
 pub letters_is : (s : List ℕ) → list_all is_ascii_lowercase s ≡ letters s
@@ -46,3 +52,13 @@ joined d m r u v n k p q e f h =
     let z : n ≡ 0 + length u = e in
     let j : r ≡ splice d 0 (u ++ v) = q ∙ rw (p, e) (splice_join d u 0 (length u) refl (omega arith) v) in
     rw j (rw (f, e, zero-add, ← length-append u v) (rw (← zero-add (length (u ++ v))) (take_splice d (u ++ v) 0 (length (u ++ v)) refl (omega arith))))
+
+-- ---- the answers
+
+-- no two results of the code come to one answer
+pub match_answer_back : (x y : Result Bool Refusal) → match_answer x ≡ match_answer y → x ≡ y
+match_answer_back = view_back match_answer (λ (m : Match). m.verdict) tells (λ s t e. ap (λ (m : Match). m.yes) e)
+  where
+    tells : (z : Result Bool Refusal) → (match_answer z).verdict ≡ told z
+    tells (Ok b) = refl
+    tells (Err r) = refl

@@ -1,6 +1,6 @@
 //! Values: none, a fingerprint, or a node of two sides, each empty or a link. 1, 33, 3, 70 or 137 bytes.
-//! Promises upward: a well-formed value is read back from its bytes, and what is read is written as the same bytes. The tests that the
-//! entries make on values are in `tree`.
+//! Promises upward: a well-formed value is read back from its bytes, and what is read is written as the same bytes; two values are the same by
+//! `==`, which is `value_eq`, exactly where they are equal (proofs/Equal). The tests that the entries make on values are in `tree`.
 #![tactic(auto)]
 
 ghost use Rattle.std.specs.Prelude.{◌≡◌, ◌+◌, ◌≤◌, length};

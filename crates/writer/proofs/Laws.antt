@@ -1,7 +1,7 @@
 -- How long the bytes of entries are, and what the writer answers. Assumes nothing.
 use Prim.Native.Nat.{ℕ, ◌+◌, ◌≤◌, ◌<◌}
 use mathlib.Core.Bool.{true, false}
-use mathlib.Core.Path.{◌≡◌, refl, ap, sym, ◌∙◌}
+use mathlib.Core.Path.{◌≡◌, refl, ap}
 use mathlib.Core.List.{List}
 use native.Mathlib.Omega.{arith}
 use lib.ListN.{length, length-append}
@@ -11,10 +11,10 @@ use Rattle.words.proofs.Laws.{bytes_length}
 use Rattle.key.proofs.Laws.{key_length, data_length}
 use Rattle.value.specs.Values.{value_bytes}
 use Rattle.value.proofs.Laws.{value_length_lem}
-use Rattle.std.specs.Prelude.{None, Result, Ok, Err, get_or}
+use Rattle.std.specs.Prelude.{Result, Ok, Err}
 use Rattle.verdict.specs.Verdicts.{accepted, malformed, no_room, told}
 use Rattle.verdict.specs.declared.Refusal.{Refusal}
-use Rattle.verdict.proofs.Reasons.{reasons, reason, reason_back}
+use Rattle.verdict.proofs.Reasons.{view_back}
 use Rattle.entry.specs.Entries.{entry_body, entry_bytes, well_entry}
 use Rattle.entry.specs.declared.Entry.{Entry}
 use Rattle.writer.specs.Writings.{Written, written, writing, unwritten, write_entry}
@@ -70,19 +70,11 @@ entry_length e = simp (length-append, bytes_length) (omega arith)
 
 -- no two results of the code come to one answer
 pub written_back : (a b : Result ℕ Refusal) → written a ≡ written b → a ≡ b
-written_back a b p = go a b (sym (reason_back a) ∙ ap (λ (n : ℕ). get_or reasons n None) (verdict a b p) ∙ reason_back b) (ap (λ (w : Written). w.used) p)
+written_back = view_back written (λ (w : Written). w.verdict) tells (λ s t e. ap (λ (w : Written). w.used) e)
   where
-    verdict : (a b : Result ℕ Refusal) → written a ≡ written b → told a ≡ told b
-    verdict (Ok n) (Ok m) p = ap (λ (w : Written). w.verdict) p
-    verdict (Ok n) (Err s) p = ap (λ (w : Written). w.verdict) p
-    verdict (Err r) (Ok m) p = ap (λ (w : Written). w.verdict) p
-    verdict (Err r) (Err s) p = ap (λ (w : Written). w.verdict) p
-
-    go : (a b : Result ℕ Refusal) → reason a ≡ reason b → (written a).used ≡ (written b).used → a ≡ b
-    go (Ok n) (Ok m) e u = ap Ok u
-    go (Ok n) (Err s) e u = cc
-    go (Err r) (Ok m) e u = cc
-    go (Err r) (Err s) e u = cc
+    tells : (z : Result ℕ Refusal) → (written z).verdict ≡ told z
+    tells (Ok n) = refl
+    tells (Err r) = refl
 
 module _ (e : Entry) (out : List ℕ) where
   pub write_malformed : well_entry e ≡ false → unwritten malformed out ≡ write_entry e out

@@ -1,0 +1,2 @@
+-- What the entries find in slots.
+pub mod Records

@@ -5,8 +5,7 @@ use Prim.Native.Nat.{ℕ, ◌+◌, ◌*◌, ◌^◌, ◌<◌}
 use lib.ListN.{length, length-append}
 use Rattle.words.proofs.Laws.{bytes_length, number_back, number_behind, number_split}
 use Rattle.words.specs.Numbers.{number_at, bytes_of}
-use Rattle.std.specs.Prelude.{Result, Ok, Err}
-use Rattle.verdict.specs.Verdicts.{told}
+use Rattle.std.specs.Prelude.{Result}
 use Rattle.verdict.specs.declared.Refusal.{Refusal}
 use Rattle.verdict.proofs.Reasons.{view_back}
 use Rattle.cmac.specs.Tags.{TagAnswer, tag_answer}
@@ -41,8 +40,4 @@ module _ (a b c d : ℕ) (ha : a < 2 ^ 32) (hb : b < 2 ^ 32) (hc : c < 2 ^ 32) (
 
 -- no two results of the code come to one answer
 pub tag_answer_back : (x y : Result (List ℕ) Refusal) → tag_answer x ≡ tag_answer y → x ≡ y
-tag_answer_back = view_back tag_answer (λ (a : TagAnswer). a.verdict) tells (λ s t e. ap (λ (a : TagAnswer). a.bytes) e)
-  where
-    tells : (z : Result (List ℕ) Refusal) → (tag_answer z).verdict ≡ told z
-    tells (Ok b) = refl
-    tells (Err r) = refl
+tag_answer_back = view_back tag_answer (λ (a : TagAnswer). a.verdict) (λ t. refl) (λ r. refl) (λ s t e. ap (λ (a : TagAnswer). a.bytes) e)

@@ -10,7 +10,6 @@ use borrow.Author.Tests.{eqb-true}
 use Rattle.words.specs.Choice.{pick}
 use Rattle.words.proofs.Laws.{both_true}
 use Rattle.verdict.specs.Verdicts.{accepted, not_well, malformed, short, no_slot, slot_taken, slot_empty, key_held, wrong_kind, other_key, no_ancestor, no_link, other_branch, marked_deferred, digest_differs, not_first, wrong_origin, root_slot, epoch_not_open, time_out_of_range, count_full, epoch_full, wrong_moment, counts_differ, sums_differ, wrong_cache}
-use Rattle.verdict.specs.Verdicts as verdicts
 use Rattle.verdict.specs.declared.Refusal.{Refusal}
 use Rattle.verdict.proofs.Reasons.{view_back}
 use Rattle.cmac.specs.Tags.{tag_eq}
@@ -233,8 +232,4 @@ module _ (st : State) (c : List ℕ) where
 
 -- no two results of the code are told alike by the rules
 pub done_back : (st : State) (x y : Result State Refusal) → done x st ≡ done y st → x ≡ y
-done_back st = view_back (λ (z : Result State Refusal). done z st) (λ (d : Done). d.verdict) tells (λ s t e. ap (λ (d : Done). d.state) e)
-  where
-    tells : (z : Result State Refusal) → (done z st).verdict ≡ verdicts.told z
-    tells (Ok next) = refl
-    tells (Err r) = refl
+done_back st = view_back (λ (z : Result State Refusal). done z st) (λ (d : Done). d.verdict) (λ t. refl) (λ r. refl) (λ s t e. ap (λ (d : Done). d.state) e)

@@ -14,8 +14,7 @@ use Rattle.words.specs.Splices.{splice}
 use Rattle.words.specs.declared.Four.{Four}
 use Rattle.words.proofs.Laws.{bytes_low, bytes_length, bytes_split, take_splice, splice_all, four_at_lem, four_back, append_bytes, number_bytes}
 use Rattle.sha256.specs.Sha256.{Hash, H0, compress, blocks, padding, after, padded, hash_bytes}
-use Rattle.std.specs.Prelude.{Result, Ok, Err}
-use Rattle.verdict.specs.Verdicts.{told}
+use Rattle.std.specs.Prelude.{Result}
 use Rattle.verdict.specs.declared.Refusal.{Refusal}
 use Rattle.verdict.proofs.Reasons.{view_back}
 use Rattle.sha256.specs.Sha256.{Answer, answer}
@@ -214,8 +213,4 @@ hash_written s w d r l p q =
 
 -- no two results of the code come to one answer
 pub answer_back : (x y : Result (List ℕ) Refusal) → answer x ≡ answer y → x ≡ y
-answer_back = view_back answer (λ (a : Answer). a.verdict) tells (λ s t e. ap (λ (a : Answer). a.bytes) e)
-  where
-    tells : (z : Result (List ℕ) Refusal) → (answer z).verdict ≡ told z
-    tells (Ok b) = refl
-    tells (Err r) = refl
+answer_back = view_back answer (λ (a : Answer). a.verdict) (λ t. refl) (λ r. refl) (λ s t e. ap (λ (a : Answer). a.bytes) e)

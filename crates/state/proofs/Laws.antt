@@ -26,8 +26,7 @@ use Rattle.state.specs.States.{epoch_limit, count_limit, clock_limit, well_tally
 use Rattle.state.specs.declared.Tally.{Tally}
 use Rattle.std.specs.Prelude.{Some}
 use Rattle.state.specs.declared.State.{State}
-use Rattle.std.specs.Prelude.{Result, Ok, Err}
-use Rattle.verdict.specs.Verdicts.{told}
+use Rattle.std.specs.Prelude.{Result}
 use Rattle.verdict.specs.declared.Refusal.{Refusal}
 use Rattle.verdict.proofs.Reasons.{view_back}
 use Rattle.state.specs.States.{Opened, opened}
@@ -182,11 +181,7 @@ module _ (key c : List ℕ) where
 
 -- no two results of the code come to one answer
 pub opened_back : (x y : Result State Refusal) → opened x ≡ opened y → x ≡ y
-opened_back = view_back opened (λ (o : Opened). o.verdict) tells (λ s t e. ap (λ (o : Opened). o.state) e)
-  where
-    tells : (z : Result State Refusal) → (opened z).verdict ≡ told z
-    tells (Ok st) = refl
-    tells (Err r) = refl
+opened_back = view_back opened (λ (o : Opened). o.verdict) (λ t. refl) (λ r. refl) (λ s t e. ap (λ (o : Opened). o.state) e)
 
 -- a state has one expansion of its set key beside it: `result.state ≡ st` leaves no choice
 expanded_back : (x y : Expanded) → x.bytes ≡ y.bytes → x ≡ y

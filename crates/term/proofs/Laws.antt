@@ -16,8 +16,7 @@ use Rattle.words.specs.Splices.{splice}
 use Rattle.words.proofs.Laws.{splice_join, take_splice, both_true}
 use Rattle.term.specs.Terms.{letters, well_code, well_term, same_bytes, hashed}
 use mathlib.Core.Bool.{Bool}
-use Rattle.std.specs.Prelude.{Result, Ok, Err}
-use Rattle.verdict.specs.Verdicts.{told}
+use Rattle.std.specs.Prelude.{Result}
 use Rattle.verdict.specs.declared.Refusal.{Refusal}
 use Rattle.verdict.proofs.Reasons.{view_back}
 use Rattle.term.specs.Terms.{Match, match_answer}
@@ -57,8 +56,4 @@ joined d m r u v n k p q e f h =
 
 -- no two results of the code come to one answer
 pub match_answer_back : (x y : Result Bool Refusal) → match_answer x ≡ match_answer y → x ≡ y
-match_answer_back = view_back match_answer (λ (m : Match). m.verdict) tells (λ s t e. ap (λ (m : Match). m.yes) e)
-  where
-    tells : (z : Result Bool Refusal) → (match_answer z).verdict ≡ told z
-    tells (Ok b) = refl
-    tells (Err r) = refl
+match_answer_back = view_back match_answer (λ (m : Match). m.verdict) (λ t. refl) (λ r. refl) (λ s t e. ap (λ (m : Match). m.yes) e)

@@ -1,7 +1,7 @@
 -- A number tells of one refusal alone: two outcomes that are told alike refuse alike, or accept.
 use Rattle.std.specs.Prelude.{ℕ, ◌≡◌, List, [], ◌∷◌, Option, Some, None, Result, Ok, Err, get_or}
 use Rattle.std.proofs.Common.{refl, sym, ap, ◌∙◌}
-use Rattle.verdict.specs.Verdicts.{told}
+use Rattle.verdict.specs.Verdicts.{accepted, number, told}
 use Rattle.verdict.specs.declared.Refusal.{Refusal}
 use Rattle.verdict.specs.declared.Refusal.TheVariants.{NotWell, Malformed, Short, NoSlot, SlotTaken, SlotEmpty, KeyHeld, WrongKind, OtherKey, NoAncestor, NoLink, OtherBranch, MarkedDeferred, DigestDiffers, NotFirst, WrongOrigin, RootSlot, EpochNotOpen, TimeOutOfRange, CountFull, EpochFull, WrongMoment, CountsDiffer, SumsDiffer, ValueDiffers, AbsenceNotShown, NoRoom, WrongCache, BadTerm, TooLong}
 
@@ -49,9 +49,13 @@ reason_back (Err BadTerm) = refl
 reason_back (Err TooLong) = refl
 
 -- A view of outcomes that tells their number, and is one to one on what is accepted, is one to one: a contract `view result ≡ ..` determines the result.
-pub view_back : {T A : Type 0} (view : Result T Refusal → A) (verdict : A → ℕ) → ((z : Result T Refusal) → verdict (view z) ≡ told z) → ((s t : T) → view (Ok s) ≡ view (Ok t) → s ≡ t) → (x y : Result T Refusal) → view x ≡ view y → x ≡ y
-view_back {T} view verdict tells same x y e = go x y e (sym (reason_back x) ∙ ap (λ (n : ℕ). get_or reasons n None) (sym (tells x) ∙ ap verdict e ∙ tells y) ∙ reason_back y)
+pub view_back : {T A : Type 0} (view : Result T Refusal → A) (verdict : A → ℕ) → ((t : T) → verdict (view (Ok t)) ≡ accepted) → ((r : Refusal) → verdict (view (Err r)) ≡ number r) → ((s t : T) → view (Ok s) ≡ view (Ok t) → s ≡ t) → (x y : Result T Refusal) → view x ≡ view y → x ≡ y
+view_back {T} view verdict accepts refuses same x y e = go x y e (sym (reason_back x) ∙ ap (λ (n : ℕ). get_or reasons n None) (sym (tells x) ∙ ap verdict e ∙ tells y) ∙ reason_back y)
   where
+    tells : (z : Result T Refusal) → verdict (view z) ≡ told z
+    tells (Ok t) = accepts t
+    tells (Err r) = refuses r
+
     go : (x y : Result T Refusal) → view x ≡ view y → reason x ≡ reason y → x ≡ y
     go (Ok s) (Ok t) e p = ap Ok (same s t e)
     go (Ok s) (Err r) e p = cc
@@ -60,4 +64,4 @@ view_back {T} view verdict tells same x y e = go x y e (sym (reason_back x) ∙ 
 
 -- as where the number is all that is told, of a call that answers no more than that
 pub told_back : {T : Type 0} → ((s t : T) → s ≡ t) → (x y : Result T Refusal) → told x ≡ told y → x ≡ y
-told_back one = view_back told (λ (n : ℕ). n) (λ z. refl) (λ s t e. one s t)
+told_back one = view_back told (λ (n : ℕ). n) (λ t. refl) (λ r. refl) (λ s t e. one s t)

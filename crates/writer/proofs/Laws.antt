@@ -11,8 +11,8 @@ use Rattle.words.proofs.Laws.{bytes_length}
 use Rattle.key.proofs.Laws.{key_length, data_length}
 use Rattle.value.specs.Values.{value_bytes}
 use Rattle.value.proofs.Laws.{value_length_lem}
-use Rattle.std.specs.Prelude.{Result, Ok, Err}
-use Rattle.verdict.specs.Verdicts.{accepted, malformed, no_room, told}
+use Rattle.std.specs.Prelude.{Result}
+use Rattle.verdict.specs.Verdicts.{accepted, malformed, no_room}
 use Rattle.verdict.specs.declared.Refusal.{Refusal}
 use Rattle.verdict.proofs.Reasons.{view_back}
 use Rattle.entry.specs.Entries.{entry_body, entry_bytes, well_entry}
@@ -70,11 +70,7 @@ entry_length e = simp (length-append, bytes_length) (omega arith)
 
 -- no two results of the code come to one answer
 pub written_back : (a b : Result ℕ Refusal) → written a ≡ written b → a ≡ b
-written_back = view_back written (λ (w : Written). w.verdict) tells (λ s t e. ap (λ (w : Written). w.used) e)
-  where
-    tells : (z : Result ℕ Refusal) → (written z).verdict ≡ told z
-    tells (Ok n) = refl
-    tells (Err r) = refl
+written_back = view_back written (λ (w : Written). w.verdict) (λ t. refl) (λ r. refl) (λ s t e. ap (λ (w : Written). w.used) e)
 
 module _ (e : Entry) (out : List ℕ) where
   pub write_malformed : well_entry e ≡ false → unwritten malformed out ≡ write_entry e out
